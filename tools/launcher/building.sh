@@ -16,16 +16,17 @@ copy_parts() {
     done <"$room/parts"
 }
 
-# Prints for each crate in the file $1 the measured time of its proof (s) and its name. A crate that
-# wasn't measured gets 40 s, about the median.
+# Prints the measured proof time (s) and the name of each crate in the file $1. A crate that wasn't
+# measured counts as 40 s, which is about the median.
 weights() {
     awk 'FILENAME ~ /seconds$/ { if ($1 !~ /^#/) seconds[$1] = $2; next } { print ($1 in seconds ? seconds[$1] : 40), $1 }' \
         "$top/tools/launcher/seconds" "$1"
 }
 
 # Prints the progress of a build: the minutes since its beginning, and an estimate of its total
-# minutes. $1 is the weight (s) of the proved crates, and $2 that of all. The estimate uses the
-# speed so far; before a tenth of the weight is done it is 30 minutes for four or more processors.
+# minutes. $1 is the weight (s) of the proved crates, and $2 the weight of all crates. The estimate
+# uses the speed so far. Until a tenth of the weight is proved, it is 30 minutes for four or more
+# processors.
 progress() {
     awk -v done="$1" -v all="$2" -v begun="$3" -v now="$(date +%s)" -v processors="$processors" 'BEGIN {
         passed = now - begun
@@ -55,8 +56,8 @@ follow() {
     done
 }
 
-# Warns if rt checks proofs by another version of its logic than the one that checked these sources:
-# the proofs may fail then.
+# Warns if rt has another version of its logic than the version that checked these sources, since
+# the proofs may then fail.
 warn_of_logic() {
     kit=$(rt version 2>/dev/null)
     [ "${kit##* logic }" = "$logic" ] || tell "warning: this kit is '$kit', and all was proved by logic $logic"
@@ -103,8 +104,8 @@ prepare() {
     trap interrupted HUP INT TERM
 }
 
-# Prints in words how long a build takes on this machine, by measurements on four processors and
-# two.
+# Prints how long a build takes on this machine, as text, according to measurements on two and on
+# four processors.
 how_long() {
     processors=$(nproc 2>/dev/null || echo 4)
     case $processors in

@@ -1,8 +1,8 @@
-# Functions that run a program without a proof, a trial. tools/launch reads this file.
+# Functions for trials: runs of a program without a proof. tools/launch reads this file.
 
-# Copies the file $1 for a trial, which runs in another folder, and sets `taken` to the name of the
-# copy. A file that can't be read keeps its name, so that the program reports the error. It gets its
-# whole path if the crate's folder has a file of that name.
+# Copies the file $1 for a trial, since a trial runs in another folder. Sets `taken` to the name of
+# the copy. A file that can't be read isn't copied, so that the program reports the error. The name
+# of such a file becomes absolute if the crate's folder also contains a file of this name.
 hand_over() {
     taken=$1
     if [ "$kind$1" = trace- ] || { [ -r "$1" ] && [ ! -d "$1" ]; }; then
@@ -14,8 +14,8 @@ hand_over() {
     fi
 }
 
-# Sets `taken` to the word that a trial gets in place of the word $1. `next` is set by an option to
-# the kind of the word after it: a file, or another value.
+# Sets `taken` to the word that replaces the argument $1 in a trial. If $1 is an option, sets `next`
+# to the kind of the argument after the option: `file`, or `value` for any other value.
 take() {
     taken=$1 kind=$next next=''
     if [ -z "$kind" ]; then

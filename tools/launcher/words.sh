@@ -46,14 +46,14 @@ nearest() {
         }' "$@"
 }
 
-# Sets the only hint to an error in the arguments, which replaces all hints about files.
+# Replaces all hints, including those about files, by a single hint about an error in the arguments.
 word_fault() {
     hints='' hint_status=''
     hint 1 "$*"
 }
 
-# Adds a line to `hints`. $1 is the exit status, which counts if no earlier hint has one; the other
-# arguments are the line.
+# Adds a line to `hints`. $1 is the exit status, which counts unless an earlier hint has one. The
+# other arguments are the line.
 hint() {
     hint_status=${hint_status:-$1}
     shift

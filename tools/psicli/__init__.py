@@ -1,12 +1,13 @@
-"""The command line of all tools except `record` and `sample`, which run without the other packages
-on a recorded host.
+"""The command line that the tools share. `record` and `sample` have their own, because they are
+copied to the recorded host without the other packages.
 
-A tool is a file of `tools/` that calls `entry.start` with its package's module `command`. There
-`main() -> int` hands the work to `running.run`, which reports a `Fault` with the tool's name, ends
-quietly on an interrupt or if nobody reads the output, and returns a status of `status.Status`. The
-work begins with `parser.Parser`, for which a usage error is a Fault.
+A tool is a script in `tools/` that calls `entry.start` with the name of its package's module
+`command`. The function `main() -> int` of that module passes a function to `running.run`.
+`running.run` reports a `Fault` with the tool's name, exits without a message on an interrupt or if
+nobody reads the output, and returns a `status.Status`. The arguments are parsed by `parser.Parser`,
+which raises a Fault on a usage error.
 
-An option that several tools share is one function of `options`, with its text and its type. To add
-one, write the function there, with a reader of `values` or `times` as its type, and call it in the
-`parser` of each tool.
+An option that several tools share is defined by a function in `options`, with its help text and its
+type. To add such an option, write a function there, use a parser of `values` or `times` as its
+type, and call the function in the `parser` of each tool.
 """

@@ -1,4 +1,4 @@
-"""Starts a tool from its file in `tools`."""
+"""Starts a tool: imports the module that implements it, and runs the module's `main`."""
 from __future__ import annotations
 
 import importlib
@@ -7,14 +7,15 @@ import sys
 from .status import Status
 
 
-# Numbers in rules files may have any length; Python rejects more than 4300 digits by default.
+# A rules file may contain numbers of any length, but Python rejects more than 4300 digits by
+# default.
 if hasattr(sys, "set_int_max_str_digits"):
     sys.set_int_max_str_digits(0)
 
 
 def start(module: str) -> None:
-    """Runs `main` of a module, and exits with its status. An interrupt during the imports also ends
-    the tool without a message.
+    """Runs `main` of the named module, and exits with its status. If an interrupt arrives during
+    the imports, the tool exits without a message.
     """
     try:
         status = importlib.import_module(module).main()

@@ -1,5 +1,5 @@
-"""The three most common uses of each tool, and the page of docs/ about it, for --help and the
-manual pages made from --help.
+"""Example commands for each tool, and the page of docs/ that describes the tool. --help and the
+manual pages show both.
 """
 from __future__ import annotations
 
@@ -15,8 +15,8 @@ class Example(NamedTuple):
     command: str
 
 
-# By the tool's file in `tools`. tests/manual checks that each tool has three examples, with options
-# that exist.
+# The examples of each tool, by the name of its file in `tools`. tests/manual checks that each tool
+# has three examples, and that their options exist.
 EXAMPLES = {
     "blame": (
         Example("who ran while each group waited for a processor", "tools/blame incident.trace"),
@@ -183,7 +183,8 @@ EXAMPLES = {
         ),
     ),
 }
-# The page of docs/ about each tool. Tools that aren't listed are described in OPERATING.
+# The page of docs/ that describes each tool. A tool that isn't listed is described in
+# docs/OPERATING.md.
 READ_ON = {
     "compare": "docs/RECORDING.md",
     "events": "docs/CONVERT.md",
@@ -197,21 +198,21 @@ READ_ON = {
 
 
 def tool_file() -> str:
-    """Returns the name of the running tool's file in `tools`. Installed tools are links with other
-    names.
+    """Returns the name of the running tool's file in `tools`. An installed tool is a link with
+    another name, which is resolved.
     """
     return os.path.basename(os.path.realpath(sys.argv[0]))
 
 
 def read_on_text() -> str:
-    """Returns the sentence of --help that names the page about the running tool."""
+    """Returns the sentence of --help that names the page of docs/ about the running tool."""
     page = READ_ON.get(tool_file(), "docs/OPERATING.md")
     return f"Read on: {page}\n"
 
 
 def examples_text(prog: str) -> str:
-    """Returns the examples of the running tool, or of one of its commands if `prog` names a
-    command, as in `rules expect`.
+    """Returns the examples of the running tool. If `prog` names a command, as in `rules expect`,
+    returns only the examples of that command.
     """
     tool, command = tool_file(), prog.partition(" ")[2]
     shown = [it for it in EXAMPLES.get(tool, ()) if not command or f" {command} " in it.command]

@@ -1,4 +1,4 @@
-"""The error that ends a tool without its output."""
+"""Defines the exceptions that end a tool with a message."""
 from __future__ import annotations
 
 import argparse
@@ -7,7 +7,9 @@ from .status import Status
 
 
 class Fault(Exception):
-    """An error message, which says what is wrong and what to do about it, with the exit status."""
+    """An error that ends the tool. The message says what is wrong and how to correct it; `status`
+    is the exit status.
+    """
 
     def __init__(self, message: str, status: int = Status.FAILED) -> None:
         super().__init__(message)
@@ -15,5 +17,6 @@ class Fault(Exception):
 
 
 class Malformed(Fault, argparse.ArgumentTypeError):
-    """The error that an argument doesn't have the required form. A parser adds the argument's name.
+    """Raised if a command-line argument is malformed. The parser adds the argument's name to the
+    message.
     """

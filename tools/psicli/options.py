@@ -1,4 +1,6 @@
-"""The options that several tools share, each with one help text and one type."""
+"""Defines the options that several tools share, so that each has the same help text and type
+everywhere.
+"""
 from __future__ import annotations
 
 from collections.abc import Callable
@@ -16,8 +18,8 @@ def add_span(
     start: int | None = 0,
     reader: Callable[[str], int | WallTime] = point,
 ) -> None:
-    """Adds --from and --to, which select a part of a trace, a chart or a recording: `start` and
-    `end` in ns. The parameter `start` is the value without --from.
+    """Adds --from and --to, which select a part of a trace, a chart or a recording. Their values
+    are `start` and `end` (ns). The parameter `start` is the default of --from.
     """
     forms = f"seconds, or a time such as {EXAMPLE}" if reader is point else "seconds"
     parser.add_argument("--from", dest="start", metavar="S", type=reader, default=start,
@@ -26,26 +28,26 @@ def add_span(
 
 
 def add_start(parser: Parser, use: str, is_required: bool = False) -> None:
-    """Adds --start: the time of day at which the trace began, `wall`."""
+    """Adds --start, the time of day at which the trace began. Its value is `wall`."""
     parser.add_argument("--start", dest="wall", metavar="TIME", type=wall_time,
     required=is_required,
                         help=f"when the trace began, such as {EXAMPLE}{use}")  # fmt: skip
 
 
 def add_tick(parser: Parser) -> None:
-    """Adds --tick-ms, the option of `psi_oomd replay`."""
+    """Adds --tick-ms, the length of a tick (ms), as in `psi_oomd replay`."""
     parser.add_argument("--tick-ms", metavar="N", type=whole_number(1, 60000),
                         help="the length of a tick, as in `psi_oomd replay` (2000)")  # fmt: skip
 
 
 def add_interval(parser: Parser, condition: str = "") -> None:
-    """Adds --interval-s, the option of `psi_oomd replay`."""
+    """Adds --interval-s, the interval (s) between evaluations of rules, as in `psi_oomd replay`."""
     parser.add_argument("--interval-s", metavar="N", type=whole_number(1, 3600),
                         help=f"{condition}the interval of evaluations, as in `psi_oomd "
                              f"replay` (5)")  # fmt: skip
 
 
 def add_json(parser: Parser) -> None:
-    """Adds --json, which selects the output for programs, `is_json`."""
+    """Adds --json, which prints JSON for programs. Its value is `is_json`."""
     parser.add_argument("--json", dest="is_json", action="store_true",
     help="print JSON, for programs")  # fmt: skip

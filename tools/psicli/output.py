@@ -7,8 +7,8 @@ from .fault import Fault
 
 
 def must_be_writable(path: str) -> None:
-    """Raises a Fault if no file can be written at this path, so that a tool fails before its work
-    and not after it.
+    """Raises a Fault if no file can be written at this path. Tools check this before they start, so
+    that they don't fail after a long computation.
     """
     if os.path.isdir(path):
         raise Fault(f"{path} is a folder: name a file in it")

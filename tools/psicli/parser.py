@@ -11,23 +11,24 @@ from .examples import examples_text, read_on_text
 from .fault import Fault
 
 OPTIONS = "[OPTION ..]"
-# The notation of a positional argument in a short usage, by its `nargs`; `A...` is the `nargs` of a
-# command.
+# The form of a positional argument in a short usage, keyed by the argument's `nargs`. argparse uses
+# `A...` for a subcommand.
 FORMS = {"?": "[{}]", "*": "[{} ..]", "+": "{} ..", "A...": "{} .."}
 
 
 def tool_name() -> str:
-    """Returns the name by which the tool was called, which may differ from its file's name, since
-    installed tools are links.
+    """Returns the name by which the tool was called. It may differ from the name of the tool's
+    file, since an installed tool is a link.
     """
     return os.path.basename(sys.argv[0])
 
 
 class Parser(argparse.ArgumentParser):
-    """Parses the arguments of a tool. A usage error is a Fault, whose second line is a short usage.
+    """Parses the arguments of a tool. A usage error raises a Fault, whose second line is a short
+    usage.
 
-    A description or epilog of several lines keeps its layout. With `reads_input`, a file name in
-    place of standard input is explained.
+    A description or epilog of several lines keeps its layout. With `reads_input`, a file name among
+    the arguments is an error with the advice to use standard input.
     """
 
     def __init__(
@@ -52,8 +53,8 @@ class Parser(argparse.ArgumentParser):
         self.reads_input = reads_input
 
     def format_help(self) -> str:
-        """Returns the help, with the tool's examples before the arguments, and the name of a page
-        at the end.
+        """Returns the help text. The tool's examples precede the arguments, and the last line names
+        a page of docs/.
         """
         text, examples = super().format_help(), examples_text(self.prog)
         first = next(group.title for group in self._action_groups if group._group_actions)
@@ -69,7 +70,7 @@ class Parser(argparse.ArgumentParser):
         raise Fault(f"{message}\nusage: {self.short_usage()}; --help has the options")
 
     def short_usage(self) -> str:
-        """Returns one line with the required options and the positional arguments."""
+        """Returns a usage line with only the required options and the positional arguments."""
         if self.usage:
             return self.usage % {"prog": self.prog}
         required = [it for it in self._actions if it.option_strings and it.required]
@@ -79,7 +80,7 @@ class Parser(argparse.ArgumentParser):
         return " ".join([self.prog, OPTIONS, *words])
 
     def values(self, words: Sequence[str] | None = None) -> dict[str, Any]:
-        """Returns the parsed values by name. `words` are the arguments; if None, those of the
-        process.
+        """Returns the values of the options and arguments, by name. Parses `words`, or the
+        process's own arguments if `words` is None.
         """
         return vars(self.parse_args(words))

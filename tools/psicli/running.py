@@ -1,4 +1,5 @@
-"""Runs a tool's work: reports a Fault, and ends without a message if the reader closes the output.
+"""Runs a tool: reports errors on standard error, and exits without a message if the reader of the
+output closes it.
 """
 from __future__ import annotations
 
@@ -14,9 +15,7 @@ from .status import Status
 
 
 def complain(message: str) -> None:
-    """Prints a line on standard error, with the tool's name. A closed standard error isn't an
-    error.
-    """
+    """Prints a line on standard error, after the tool's name. Ignores a closed standard error."""
     if sys.stderr is not None:
         with contextlib.suppress(OSError, ValueError):
             print(f"{tool_name()}: {message}", file=sys.stderr, flush=True)
@@ -28,7 +27,7 @@ def write(data: bytes) -> None:
 
 
 def run(work: Callable[[], int]) -> int:
-    """Does a tool's work and flushes its output; returns the exit status."""
+    """Runs a tool, flushes its output, and returns the exit status."""
     if not isinstance(sys.stdout, io.TextIOWrapper):
         complain("there is no standard output")
         return Status.FAILED
@@ -52,8 +51,8 @@ def run(work: Callable[[], int]) -> int:
 
 
 def ended(work: Callable[[], int]) -> int:
-    """Returns the status of the work, after flushing its output. The output of --help, which raises
-    SystemExit, is flushed too.
+    """Runs a tool, flushes its output, and returns its status. The output is also flushed if the
+    tool raises an exception, such as the SystemExit of --help.
     """
     try:
         return work()

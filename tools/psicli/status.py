@@ -1,4 +1,6 @@
-"""The exit statuses of the tools, and those of psi_oomd, which some tools pass on."""
+"""Defines the exit statuses of the tools and of psi_oomd. Some tools exit with the status of
+psi_oomd.
+"""
 from __future__ import annotations
 
 import enum

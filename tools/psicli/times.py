@@ -1,4 +1,4 @@
-"""Parses and formats times and lengths of time. All are whole ns."""
+"""Parses and formats times and durations, which are whole numbers of ns."""
 from __future__ import annotations
 
 import calendar
@@ -34,7 +34,7 @@ def seconds_to_ms(ns: int) -> str:
 
 
 def duration(ns: int) -> str:
-    """Formats a length of time (ns) in hours, minutes and seconds: `1 h 2 min 3.5 s`."""
+    """Formats a duration (ns) in hours, minutes and seconds: `1 h 2 min 3.5 s`."""
     parts = []
     for unit, length in (("d", DAY), ("h", HOUR), ("min", MINUTE)):
         count, ns = divmod(ns, length)
@@ -49,8 +49,8 @@ def nearest(ns: int, unit: int) -> int:
 
 
 def rounded(ns: int) -> str:
-    """Formats a length of time (ns), rounded to whole hours from a day on, to whole minutes from an
-    hour on, to whole seconds from a minute on, and to three digits otherwise.
+    """Formats a duration (ns), rounded to whole hours (if at least a day), whole minutes (if at
+    least an hour), whole seconds (if at least a minute), or three digits.
     """
     three_digits = int(10 ** max(0, len(str(ns)) - 3))
     for length, unit in ((MINUTE, three_digits), (HOUR, SECOND), (DAY, MINUTE)):
@@ -60,8 +60,8 @@ def rounded(ns: int) -> str:
 
 
 class WallTime(NamedTuple):
-    """A time of day with its time zone: ns since 1970 in UTC, and the ns by which local clocks are
-    ahead of UTC.
+    """A time of day with its time zone: ns since 1970 in UTC, and the offset (ns) of the local time
+    from UTC.
     """
 
     epoch: int
@@ -69,7 +69,7 @@ class WallTime(NamedTuple):
 
 
 class ClockTime(NamedTuple):
-    """The date and the time of day that a clock shows."""
+    """A date and a time of day, as a clock shows them."""
 
     date: time.struct_time
     clock: str
@@ -80,9 +80,7 @@ class ClockTime(NamedTuple):
 
 
 def clock_time(local: int) -> ClockTime:
-    """Returns the date and the time of day that a clock shows `local` ns after 1970-01-01 00:00 of
-    its time zone.
-    """
+    """Returns the date and the time of day at `local` ns after 1970-01-01 00:00 local time."""
     whole, part = divmod(local, SECOND)
     date = time.gmtime(whole)
     decimals = f".{part:09}".rstrip("0") if part else ""
@@ -90,19 +88,19 @@ def clock_time(local: int) -> ClockTime:
 
 
 def zone(ahead: int) -> str:
-    """Returns the name of a time zone whose clocks are `ahead` ns ahead of UTC."""
+    """Returns the name of the time zone with this offset (ns) from UTC."""
     minutes = abs(ahead) // MINUTE
     return f"UTC{'-' if ahead < 0 else '+'}{minutes // 60:02}:{minutes % 60:02}" if ahead else "UTC"
 
 
 class Shown:
-    """The time of day at the start of the trace whose times are printed. None if it isn't known."""
+    """The time of day at which the printed trace started, or None if it isn't known."""
 
     wall: WallTime | None = None
 
 
 def time_text(ns: int) -> str:
-    """Formats a time in a trace (ns) in seconds, and as a time of day too if that is known."""
+    """Formats a time in a trace (ns) in seconds. Adds the time of day if it is known."""
     if Shown.wall is None:
         return f"{seconds(ns)} s"
     clock = clock_time(Shown.wall.epoch + Shown.wall.ahead + ns).clock
@@ -116,7 +114,7 @@ WALL_TIME = re.compile(
 
 
 def wall_time(word: str) -> WallTime:
-    """Parses a time with its time zone in the format of ISO 8601: `2026-11-28T13:58:12Z`,
+    """Parses a time with a time zone in ISO 8601 format: `2026-11-28T13:58:12Z`,
     `2026-11-28T14:58:12.5+01:00`.
     """
     found = WALL_TIME.fullmatch(word)

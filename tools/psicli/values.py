@@ -1,5 +1,5 @@
-"""Parsers of single arguments. Each takes the argument's text, and raises Malformed if the text
-doesn't have the required form.
+"""Parsers for command-line arguments. Each parses the text of one argument, and raises Malformed if
+the text is invalid.
 """
 from __future__ import annotations
 
@@ -11,7 +11,7 @@ from .times import MINUTE, SECOND, WallTime, ns_of, wall_time
 
 
 def whole_number(least: int, most: int) -> Callable[[str], int]:
-    """Returns a parser of whole numbers from `least` to `most`."""
+    """Returns a parser for whole numbers from `least` to `most`, both inclusive."""
 
     def read(word: str) -> int:
         if not re.fullmatch("0|[1-9][0-9]{0,8}", word) or not least <= int(word) <= most:
@@ -36,7 +36,7 @@ def nanoseconds(word: str) -> int:
 
 
 def length(word: str) -> int:
-    """Parses a length of time in whole seconds or minutes, such as 720 or 12min. Returns ns."""
+    """Parses a duration in whole seconds or minutes, such as `720` or `12min`. Returns ns."""
     found = re.fullmatch(r"([1-9][0-9]{0,5})(s|min)?", word)
     if not found:
         raise Malformed(f"{word} isn't a length of time such as 720 or 12min")
@@ -44,8 +44,8 @@ def length(word: str) -> int:
 
 
 def point(word: str) -> int | WallTime:
-    """Parses a time: seconds since the start of a trace (returned in ns), or a time of day with its
-    time zone.
+    """Parses a time: either seconds since the start of a trace, which are returned in ns, or a time
+    of day with a time zone.
     """
     if "T" in word:
         return wall_time(word)

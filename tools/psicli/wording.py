@@ -3,7 +3,7 @@ from __future__ import annotations
 
 import difflib
 
-# The largest number of groups that a message names.
+# The largest number of groups that a message lists.
 NAMED = 8
 
 
@@ -13,7 +13,9 @@ def counted(number: int, what: str) -> str:
 
 
 def quoted(text: str) -> str:
-    """Quotes a text. Unprintable characters are escaped, so that the result is a single line."""
+    """Quotes a text for a message. Unprintable characters are escaped, so the result is a single
+    line.
+    """
     plain = text.replace("\\", "\\\\").replace("'", "\\'")
     shown = (
         it if it.isprintable() else it.encode("unicode_escape", "surrogatepass").decode()
@@ -23,13 +25,13 @@ def quoted(text: str) -> str:
 
 
 def listed(names: list[str], last: str = "and") -> str:
-    """Joins names to a list: `a, b and c`."""
+    """Joins names into a list: `a, b and c`."""
     return f" {last} ".join(filter(None, [", ".join(names[:-1]), *names[-1:]]))
 
 
 def suggested(word: str, names: list[str]) -> str:
-    """Returns the names that are most similar to a mistyped word, as a list for a message; the
-    first names if none is similar.
+    """Returns the known names that are most similar to a mistyped name, as a list for a message. If
+    none is similar, returns the first known names.
     """
     near = difflib.get_close_matches(word, [it for it in names if it != "/"], NAMED)
     near = near or [it for it in names if it.endswith(f"/{word.strip('/')}")] or names[:NAMED]

@@ -1,3 +1,3 @@
-"""Builds the packages of psi_oomd: collects the files to install, and writes them as a Debian
+"""Builds the packages of psi_oomd. Collects the files to install, and writes them as a Debian
 package and as a tar archive.
 """

@@ -1,5 +1,5 @@
-"""Writes reproducible archives: equal files give equal bytes. Members are sorted by name, are owned
-by root, and have the same time.
+"""Writes reproducible archives: equal contents give equal bytes. Members are sorted by name, owned
+by root, and all have the same time.
 """
 from __future__ import annotations
 
@@ -11,12 +11,12 @@ import tarfile
 
 from .tree import Member
 
-# The header of a member of an ar archive: its name, time, owner, group, mode and size (ar(5)).
+# The format of a member's header in an ar archive: name, time, owner, group, mode and size (ar(5)).
 AR_HEAD = "{name:<16}{time:<12}{owner:<6}{group:<6}{mode:<8}{size:<10}`\n"
 
 
 def folders_of(paths: list[str]) -> list[str]:
-    """Returns all folders above these paths, each after its parent."""
+    """Returns all folders that contain these paths, each after its parent."""
     found = {""}
     for path in paths:
         while path := os.path.dirname(path):
@@ -25,8 +25,8 @@ def folders_of(paths: list[str]) -> list[str]:
 
 
 def tar_of(members: list[Member], top: str, seconds: int) -> bytes:
-    """Returns a tar archive with the members below the folder `top`. All have the same time,
-    `seconds` since 1970.
+    """Returns a tar archive with these members below the folder `top`. The time of each member is
+    `seconds` (since 1970).
     """
     placed = {f"{top}/{member.path}": member for member in members}
     rows: list[tuple[str, Member | None]] = [(path, None) for path in folders_of(list(placed))]
@@ -46,7 +46,8 @@ def tar_of(members: list[Member], top: str, seconds: int) -> bytes:
 
 
 def gzipped(data: bytes, seconds: int) -> bytes:
-    """Compresses bytes by gzip, with the time `seconds` (since 1970) and no file name."""
+    """Compresses bytes with gzip. The header has the time `seconds` (since 1970), and no file name.
+    """
     output = io.BytesIO()
     with gzip.GzipFile(
         filename="", mode="wb", compresslevel=9, fileobj=output, mtime=seconds
@@ -56,7 +57,7 @@ def gzipped(data: bytes, seconds: int) -> bytes:
 
 
 def xz_of(data: bytes) -> bytes:
-    """Compresses bytes by xz, with options that dpkg accepts."""
+    """Compresses bytes with xz, with options that dpkg accepts."""
     return lzma.compress(data, preset=6)
 
 

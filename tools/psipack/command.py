@@ -1,4 +1,5 @@
-"""The command tools/package: its arguments, and the steps in which it builds the packages."""
+"""Implements the command tools/package: parses its arguments, and builds the packages step by step.
+"""
 from __future__ import annotations
 
 import argparse
@@ -49,7 +50,8 @@ ORIGIN = """\
 the proof can be run again in a checkout of this commit: by ./psi_oomd --build, and by .ci/run \
 with all tests
 """
-# By default Debian's systemd enables each service on the first boot of a machine.
+# Disables the services by default. Without this, Debian's systemd enables each service on the first
+# boot of a machine.
 PRESET = "".join(f"disable {it}\n" for it in UNITS)
 UNPROVED = "unproved: these programs were handed to tools/package, and the gate didn't build them"
 PATIENCE_SECONDS = 10
@@ -57,7 +59,7 @@ NUMBER = re.compile(r"[0-9][0-9A-Za-z.+-]*")
 
 
 def git(*words: str) -> str:
-    """Returns the output of git in the repository."""
+    """Runs git in the repository, and returns its standard output."""
     done = subprocess.run(["git", "-C", TOP, *words], capture_output=True, encoding="utf-8")
     if done.returncode:
         raise Fault(
@@ -69,9 +71,11 @@ def git(*words: str) -> str:
 
 def version_of(commit: str, is_changed: bool) -> str:
     """Returns the version of a package: the number in CHANGELOG's top heading, as in `## 1.0
-    (2026-12-01)`. If the heading has no number, or if the tag of that number is at another commit,
-    the version is the last release with the day and the hash of the commit added. A hyphen
-    becomes a tilde, so that Debian sorts 1.0~rc1 before the release 1.0.
+    (2026-12-01)`.
+
+    If the heading has no number, or if the tag of that number is at another commit, the day and the
+    hash of `commit` are appended to the last release. A hyphen becomes a tilde, so that Debian
+    sorts 1.0~rc1 before the release 1.0.
     """
     headings = re.findall(r"^## (.*)$", bytes_of(TOP, "CHANGELOG.md").decode(), re.MULTILINE)
     numbers = [found[0] if (found := NUMBER.match(it)) else "" for it in headings]
@@ -86,8 +90,8 @@ def version_of(commit: str, is_changed: bool) -> str:
 
 
 def kit_of(options: argparse.Namespace) -> str:
-    """Returns the line that says which toolchain proved the programs: the one that --kit names, or
-    the installed one. With --unproved the line says that the programs are unproved.
+    """Returns the line that says which toolchain proved the programs: the toolchain that --kit
+    names, or the installed one. With --unproved, the line says that the programs are unproved.
     """
     if options.unproved:
         return UNPROVED
@@ -102,8 +106,9 @@ def kit_of(options: argparse.Namespace) -> str:
 
 
 def programs_named(options: argparse.Namespace) -> dict[str, bytes]:
-    """Returns the bytes of the programs. Builds those whose paths aren't given. A program whose
-    path is given must be identical to the program that was built and proved here.
+    """Returns the bytes of the programs. Builds each program whose path isn't in the arguments. A
+    program whose path is in the arguments must be identical to the program that was built and
+    proved here.
     """
     paths = dict(zip(PROGRAMS, (options.program, options.observer)))
     found = {
@@ -124,18 +129,20 @@ def programs_named(options: argparse.Namespace) -> dict[str, bytes]:
 
 
 def built_path(name: str) -> str:
-    """Returns the path, below the repository, to which the launcher writes a built program."""
+    """Returns the path, relative to the repository, to which the launcher writes a built program.
+    """
     return os.path.join("crates", f"{name}_main", "out", f"{name}_main")
 
 
 def built_bytes(name: str) -> bytes:
-    """Returns the bytes of a built program; empty if it wasn't built."""
+    """Returns the bytes of a built program, or no bytes if it wasn't built."""
     path = os.path.join(TOP, built_path(name))
     return bytes_of(path) if os.path.exists(path) else b""
 
 
 def check_name(name: str, path: str) -> None:
-    """Checks that the program at `path` is `name`, by the usage that it prints without arguments.
+    """Checks that the program at `path` is the program `name`. Compares the usage that it prints
+    without arguments. Raises a Fault if it is another program.
     """
     try:
         done = subprocess.run(
@@ -151,7 +158,7 @@ def check_name(name: str, path: str) -> None:
         raise Fault(f"{path} isn't {name}: without words it says {said!r}")
 
 
-# ------------------------------------------------------ files generated from the help of the tools
+# ------------------------------------------------ files generated from the tools' --help
 
 
 def write(members: list[Member], folder: str) -> None:
@@ -168,7 +175,9 @@ def write(members: list[Member], folder: str) -> None:
 
 
 def helps_of(folder: str) -> dict[str, tuple[Help, dict[str, Help]]]:
-    """Returns the --help of each installed tool, and of each of its commands."""
+    """Returns the --help of each installed tool and of each of its commands, keyed by the tool's
+    command.
+    """
     found = {}
     for tool in TOOLS:
         path = os.path.join(folder, LIBRARY, "tools", tool.file)
@@ -178,8 +187,8 @@ def helps_of(folder: str) -> dict[str, tuple[Help, dict[str, Help]]]:
 
 
 def completions(folder: str, helps: dict[str, tuple[Help, dict[str, Help]]]) -> list[Member]:
-    """Returns the completions for both shells. bash looks for a file with the name of the command,
-    so there is a single file and a link to it for each other command.
+    """Returns the completion files for bash and zsh. bash looks for a file with the name of the
+    command, so there is one file, and a link to it for each further command.
     """
     offered = []
     for name in PROGRAMS:
@@ -199,7 +208,7 @@ def completions(folder: str, helps: dict[str, tuple[Help, dict[str, Help]]]) -> 
 
 
 def pages(helps: dict[str, tuple[Help, dict[str, Help]]], facts: Facts) -> list[Member]:
-    """Returns the manual pages, compressed as in Debian."""
+    """Returns the manual pages, compressed according to Debian's rules."""
     date = time.strftime("%Y-%m-%d", time.gmtime(facts.seconds))
     source = f"{NAME} {facts.version}, commit {facts.commit[:12]}"
     found = pages_of_programs(TOP, source)
@@ -211,7 +220,7 @@ def pages(helps: dict[str, tuple[Help, dict[str, Help]]], facts: Facts) -> list[
     ]
 
 
-# ---------------------------------------------------------------- the command
+# ---------------------------------------------------------------- the steps of the command
 
 
 def files_of(programs: dict[str, bytes], facts: Facts, kit: str) -> list[Member]:
@@ -267,7 +276,7 @@ def parser() -> Parser:
 
 
 def make() -> int:
-    """Builds both files, and prints their checksums."""
+    """Builds both packages, and prints their checksums."""
     options = parser().parse_args()
     if options.unproved and options.kit:
         raise Fault("--unproved and --kit exclude each other")
@@ -290,5 +299,5 @@ def make() -> int:
 
 
 def main() -> int:
-    """Runs the command; returns the exit status."""
+    """Runs the command, and returns the exit status."""
     return run(make)

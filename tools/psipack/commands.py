@@ -1,4 +1,4 @@
-"""The table of the tools that the package installs as commands, and of the commands' names."""
+"""Lists the tools that the package installs as commands, with the names of the commands."""
 from __future__ import annotations
 
 from dataclasses import dataclass
@@ -6,8 +6,8 @@ from dataclasses import dataclass
 
 @dataclass(frozen=True)
 class Tool:
-    """A tool: its file in `tools`, the installed command, and a summary for the head of its manual
-    page.
+    """A tool: its file in `tools`, the command as which it is installed, and a summary for the head
+    of its manual page.
     """
 
     file: str
@@ -50,7 +50,7 @@ TOOLS = (
     Tool("sample", "psi-sample", "sample the pressure and the memory of all groups"),
     Tool("samples", "psi-samples", "make a trace from sampled totals of pressure"),
 )
-# The programs, each with a manual page in `docs`.
+# The programs. Each has a manual page in `docs`.
 PROGRAMS = ("psi_oomd", "psi_observe")
-# The files in `tools` that aren't installed: psi_convert, which `events` runs, isn't packed yet.
+# The files in `tools` that aren't installed. `events` needs psi_convert, which isn't packed yet.
 OF_CHECKOUTS = ("package", "psipack", "events", "psievents")

@@ -1,18 +1,21 @@
-"""Generates the completions for bash and zsh: of commands, options and the values of options."""
+"""Generates completions for bash and zsh. They complete commands, options and the values of
+options.
+"""
 from __future__ import annotations
 
 import re
 from dataclasses import dataclass
 
-# The names of values that are files. Values with other names aren't completed: they are numbers,
-# paths of groups or texts.
+# Matches the names of option values that are files. Other values aren't completed: they are
+# numbers, paths of groups or texts.
 FILES = re.compile(r"FILE|FOLDER|DIR|OUT|TRACE|TEXT")
 
 
 @dataclass(frozen=True)
 class Words:
-    """The words that can follow a program's name: its commands, each with its options and their
-    values as in the usage. A program without commands has one command with an empty name.
+    """The words that can follow a program's name. `commands` maps each command to its options, and
+    each option to the name of its value, as the usage writes it. A program without commands has a
+    single command with an empty name.
     """
 
     name: str
@@ -112,7 +115,7 @@ _psi_oomd "$@"
 
 
 def offered(program: Words) -> dict[str, list[str]]:
-    """Returns the words offered after each name, and after each name with a command."""
+    """Returns the words to offer after each program's name, and after each name with a command."""
     named = [command for command in program.commands if command]
     found = {program.name: [*named, *program.commands.get("", {})]}
     return {
@@ -122,8 +125,8 @@ def offered(program: Words) -> dict[str, list[str]]:
 
 
 def valued(program: Words) -> dict[str, str]:
-    """Returns the completion of each option's value, by the words up to that option: FILE for a
-    file, or the possible values.
+    """Returns how to complete each option's value. The keys are the words up to and including the
+    option. A value in the result is FILE for a file name, or else a list of the possible values.
     """
     found: dict[str, str] = {}
     for command, options in program.commands.items():
@@ -137,7 +140,7 @@ def valued(program: Words) -> dict[str, str]:
 
 
 def cases(rows: dict[str, str]) -> str:
-    """Returns the rows as branches of a shell's `case`, each of which prints its words. Keys with
+    """Formats the rows as branches of a shell's `case`. Each branch prints its words. Keys with
     equal words share a branch.
     """
     alike: dict[str, list[str]] = {}
@@ -149,7 +152,7 @@ def cases(rows: dict[str, str]) -> str:
 
 
 def script_of(template: str, programs: list[Words]) -> bytes:
-    """Returns the completions of the programs, from the template for one of the shells."""
+    """Returns the completions of the programs. `template` is the text for one of the shells."""
     words = {
         key: " ".join(found) for program in programs for key, found in offered(program).items()
     }

@@ -1,5 +1,5 @@
-"""Writes a Debian package: besides the installed files its dependencies, its changelog, its
-licence, and the scripts that run when it is installed or removed.
+"""Writes a Debian package. In addition to the installed files, it contains the dependencies, the
+changelog, the licence, and the scripts that run when it is installed or removed.
 """
 from __future__ import annotations
 
@@ -67,7 +67,7 @@ License: Apache-2.0
  /usr/share/common-licenses/Apache-2.0. It is also in the file LICENSE beside
  this one.
 """
-# systemd reloads units after they were installed, changed or removed.
+# Makes systemd reload its units after they were installed, changed or removed.
 RELOADS = """\
 if [ -d /run/systemd/system ]; then
     systemctl --system daemon-reload >/dev/null || true
@@ -77,8 +77,8 @@ AFTER_UNPACKING = f"""\
 #!/bin/sh
 set -e
 {RELOADS}"""
-# The services are stopped before their files are removed: when the flight recorder stops, it undoes
-# its changes to the kernel.
+# Stops the services before their files are removed. When the flight recorder stops, it undoes its
+# changes to the kernel.
 BEFORE_REMOVAL = f"""\
 #!/bin/sh
 set -e
@@ -86,8 +86,8 @@ if [ "$1" = remove ] && [ -z "$DPKG_ROOT" ] && [ -d /run/systemd/system ]; then
     deb-systemd-invoke stop {" ".join(UNITS)} >/dev/null || true
 fi
 """
-# If a service was enabled, systemd has a link that no package owns. Recordings aren't removed,
-# since they belong to the machine's owner.
+# Removes the link that enables a service, since no package owns this link. Recordings stay, since
+# they belong to the machine's owner.
 AFTER_REMOVAL = f"""\
 #!/bin/sh
 set -e
@@ -108,8 +108,8 @@ OVERRIDES = f"""\
 
 @dataclass(frozen=True)
 class Facts:
-    """The metadata of the package: its version, the commit, the least version of the C library, its
-    maintainer, and its time (s since 1970).
+    """The metadata of the package: its version, the commit, the lowest version of the C library,
+    its maintainer, and its time (s since 1970).
     """
 
     version: str
@@ -119,7 +119,7 @@ class Facts:
     seconds: int
 
     def date(self) -> str:
-        """Returns the time in the format of a Debian changelog."""
+        """Returns the package's time in the format of a Debian changelog."""
         return time.strftime("%a, %d %b %Y %H:%M:%S +0000", time.gmtime(self.seconds))
 
     def year(self) -> int:
@@ -128,7 +128,7 @@ class Facts:
 
 
 def own_documents(facts: Facts) -> list[Member]:
-    """Returns the files that Debian requires in the documentation folder."""
+    """Returns the files that Debian requires in a package's documentation folder."""
     owner = facts.maintainer.partition(" <")[0]
     said = COPYRIGHT.format(maintainer=facts.maintainer, owner=owner, year=facts.year())
     changes = CHANGES.format(
@@ -146,12 +146,12 @@ def own_documents(facts: Facts) -> list[Member]:
 
 
 def control_of(members: list[Member], facts: Facts) -> list[Member]:
-    """Returns the control files: the description of the package, and the scripts."""
+    """Returns the control files: the description of the package, and its scripts."""
     sums = [
         f"{hashlib.md5(it.data).hexdigest()}  usr/{it.path}\n" for it in members if not it.target
     ]
-    # The installed size in KiB: the sum of the rounded-up sizes of files, plus 1 for each folder
-    # and link (Debian Policy, 5.6.20).
+    # The installed size in KiB. Each file counts with its size rounded up to KiB, and each folder
+    # and link counts as 1 (Debian Policy, 5.6.20).
     folders = folders_of([f"usr/{member.path}" for member in members])
     size = len(folders) + sum(-(-len(it.data) // 1024) or 1 for it in members)
     said = CONTROL.format(
@@ -172,7 +172,7 @@ def control_of(members: list[Member], facts: Facts) -> list[Member]:
 
 
 def package_of(members: list[Member], facts: Facts) -> bytes:
-    """Returns the package, with its files below /usr."""
+    """Returns the bytes of the package, which installs its files below /usr."""
     members = sorted(members, key=lambda member: member.path)
     parts = {
         "debian-binary": b"2.0\n",

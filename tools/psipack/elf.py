@@ -1,5 +1,5 @@
-"""Finds the version of the C library that a program requires, from the versions of the symbols that
-it uses.
+"""Finds the version of the C library that a program requires. The program's symbols have versions,
+and the highest of them is required.
 """
 from __future__ import annotations
 
@@ -7,7 +7,7 @@ import struct
 
 from psicli.fault import Fault
 
-MAGIC = b"\x7fELF\x02\x01"  # 64 bits, the least byte first
+MAGIC = b"\x7fELF\x02\x01"  # 64-bit, little-endian
 X86_64 = 62
 HEADER_BYTES = 64
 NEEDED_VERSIONS = 0x6FFFFFFE  # SHT_GNU_verneed of <elf.h>
@@ -16,8 +16,8 @@ PREFIX = "GLIBC_"
 
 
 def least_libc(name: str, data: bytes) -> str:
-    """Returns the lowest version of the C library, such as 2.34, that has all symbols of the
-    program with the bytes `data`. Raises a Fault if they aren't a program for x86-64.
+    """Returns the lowest version of the C library, such as 2.34, that has all symbols which the
+    program `data` uses. Raises a Fault if `data` isn't a program for x86-64.
     """
     if not data:
         raise Fault(f"{name} is no program: the file is empty")
@@ -42,7 +42,9 @@ def least_libc(name: str, data: bytes) -> str:
 
 
 def needed_versions(data: bytes) -> list[tuple[str, str]]:
-    """Returns the pairs of a library and a version of its symbols that the program requires."""
+    """Returns each version of a library's symbols that the program requires, as pairs of library
+    and version.
+    """
     offset, size, count = struct.unpack_from("<Q", data, 40)[0], *struct.unpack_from(
         "<HH", data, 58
     )
@@ -58,8 +60,8 @@ def needed_versions(data: bytes) -> list[tuple[str, str]]:
 
 
 def versions_at(data: bytes, at: int, libraries: int, names: int) -> list[tuple[str, str]]:
-    """Returns the pairs of library and version in the tables (Elf64_Verneed, Elf64_Vernaux) at
-    offset `at`, which have `libraries` libraries.
+    """Parses the tables of required versions (Elf64_Verneed, Elf64_Vernaux) at the offset `at`.
+    Returns pairs of library and version. `libraries` is the number of libraries in the tables.
     """
     found: list[tuple[str, str]] = []
     for _ in range(libraries):

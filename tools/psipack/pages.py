@@ -1,5 +1,5 @@
 """Generates the manual pages of the tools from their --help. The pages of the programs are written
-by hand, and are in `docs`.
+by hand, in `docs`.
 """
 from __future__ import annotations
 
@@ -25,14 +25,14 @@ which has the forms of traces and rules;
 all documents are in
 .IR /usr/share/doc/psi-oomd .
 """
-# The beginnings of those blocks of --help that have sections of their own in a manual page.
+# The first words of those blocks of --help that become separate sections of a manual page.
 EXAMPLES, READ_ON = "examples:\n", "Read on: "
 FIRST_PAGE = "/usr/share/doc/psi-oomd/docs/README.md"
 STATUS = re.compile(r"(?:The )?status\b")
 
 
 def page_of(tool: Tool, about: Help, commands: dict[str, Help], date: str, source: str) -> bytes:
-    """Returns the page of a tool, with a section for each of its commands."""
+    """Returns the manual page of a tool, with a section for each of its commands."""
     name = escaped(tool.command)
     lines = [
         HEAD.format(
@@ -69,21 +69,23 @@ def page_of(tool: Tool, about: Help, commands: dict[str, Help], date: str, sourc
 
 
 def without_places(paragraphs: list[str]) -> list[str]:
-    """Returns the paragraphs without the examples and the reference to a document, which have
-    sections of their own in a manual page.
+    """Returns the paragraphs without the examples and without the reference to a document, which
+    become separate sections of a manual page.
     """
     return [it for it in paragraphs if not it.startswith((EXAMPLES, READ_ON))]
 
 
 def parted(paragraphs: list[str]) -> tuple[list[str], list[str]]:
-    """Splits the paragraphs into those that don't concern the exit status and those that do."""
+    """Splits paragraphs into two lists: paragraphs on other subjects, and paragraphs on the exit
+    status.
+    """
     return [it for it in paragraphs if not STATUS.match(it)], [
         it for it in paragraphs if STATUS.match(it)
     ]
 
 
 def paragraph(text: str) -> str:
-    """Returns a paragraph in roff. Its line breaks are preserved if a line is indented or aligned.
+    """Formats a paragraph in roff. If a line is indented or aligned, all line breaks are preserved.
     """
     lines = text.split("\n")
     if any(line.startswith(" ") or re.search(r"\S {2,}\S", line) for line in lines):
@@ -92,11 +94,13 @@ def paragraph(text: str) -> str:
 
 
 def items_of(items: list[Item]) -> list[str]:
-    """Returns a list of arguments or options in roff."""
+    """Formats a list of arguments or options in roff."""
     return [f".TP\n.B {escaped(item.words)}\n{escaped(item.about)}\n" for item in items]
 
 
 def escaped(text: str) -> str:
-    """Escapes a text for roff, so that roff keeps hyphens and takes no line for a request."""
+    """Escapes a text for roff, so that hyphens are preserved and no line is interpreted as a
+    request.
+    """
     text = text.replace("\\", "\\e").replace("-", "\\-")
     return "\\&" + text if text.startswith((".", "'")) else text

@@ -1,5 +1,5 @@
-"""Collects the files of the package from the repository, with the paths at which they are installed
-and with edits for the installed names.
+"""Collects the files of the package from the repository. Each file gets the path at which it is
+installed, and names in it are replaced by installed names.
 """
 from __future__ import annotations
 
@@ -16,29 +16,30 @@ LIBRARY = "lib/psi-oomd"
 DOCUMENTS = "share/doc/psi-oomd"
 PAGES = "share/man/man1"
 PYTHON = b"#!/usr/bin/env python3\n"
-# Debian's own Python; -B keeps it from writing compiled files, which no package would own.
+# The first line of an installed tool. It runs Debian's own Python. The option -B prevents compiled
+# files, which no package would own.
 INSTALLED_PYTHON = b"#!/usr/bin/python3 -B\n"
-# Some tools begin with lines of shell, which report an error if standard input is a folder, and
-# then start Python.
+# The first line of tools that begin with shell commands. The shell reports an error if standard
+# input is a folder, and then starts Python.
 BY_SHELL = b"#!/bin/sh\n"
 STARTED = re.compile(rb"^exec python3 -B ", re.MULTILINE)
 COMMANDS = {tool.file: tool.command for tool in TOOLS}
 NAMED_TOOL = re.compile(rf"(?<![\w./-])tools/({'|'.join(map(re.escape, COMMANDS))})(?![\w/-]|\.\w)")
-# The names of tools in their messages and usages. The messages of psitrace keep its name, since
+# Patterns for the names of tools in messages and usages. Messages of psitrace keep the name, since
 # other tools parse them.
 TOOL_NAME = "|".join(map(re.escape, COMMANDS))
 MESSAGE = re.compile(rf'(\bf")({TOOL_NAME.replace("psitrace|", "")})(?=: )')
 ECHOED = re.compile(rf'(?<=echo ")({TOOL_NAME})(?=: )')
 PROGRAM_NAME = re.compile(rf'(\bprog=")({TOOL_NAME})(?=")')
-# Parts of documents that are only for readers with the sources.
+# Matches parts of documents that only concern a checkout of the sources.
 OF_SOURCES = re.compile(r"<!-- in a checkout -->\n.*?<!-- end -->\n+", re.DOTALL)
 LINK = re.compile(r"(!?)\[([^\]]*)\]\(([^):#]+)(#[^)]*)?\)")
 
 
 @dataclass(frozen=True)
 class Member:
-    """A file, with its path below the installation folder, its bytes and its mode, or a symbolic
-    link to `target` if that isn't empty.
+    """An installed file, with its path below the installation folder, its bytes and its mode. If
+    `target` isn't empty, the member is a symbolic link to `target` instead.
     """
 
     path: str
@@ -48,8 +49,8 @@ class Member:
 
 
 def tracked(top: str, *names: str) -> list[tuple[str, int]]:
-    """Returns the files in these files and folders that git tracks, with their modes. Untracked
-    files aren't packed.
+    """Returns the files that git tracks among these files and folders, each with its mode.
+    Untracked files aren't packed.
     """
     words = ["git", "-C", top, "ls-files", "-sz", "--", *names]
     listed = subprocess.run(words, check=True, stdout=subprocess.PIPE, encoding="utf-8").stdout
@@ -68,15 +69,15 @@ def bytes_of(*path: str) -> bytes:
 
 
 def renamed(text: str) -> str:
-    """Replaces the commands of a checkout in a text by their installed names."""
+    """Replaces commands of a checkout in a text by the names of installed commands."""
     text = NAMED_TOOL.sub(lambda found: COMMANDS[found[1]], text)
     text = re.sub(rf"\./({'|'.join(PROGRAMS)})\b", r"\1", text)
     return re.sub(rf"man -l docs/({'|'.join(PROGRAMS)})\.1", r"man \1", text)
 
 
 def renamed_code(text: str) -> str:
-    """Rewrites a tool's source so that its messages and usage begin with the installed command
-    name.
+    """Rewrites a tool's source, so that its messages and its usage begin with the name of the
+    installed command.
     """
     text = MESSAGE.sub(lambda found: f"{found[1]}{COMMANDS[found[2]]}", text)
     text = ECHOED.sub(lambda found: COMMANDS[found[1]], text)
@@ -84,17 +85,17 @@ def renamed_code(text: str) -> str:
 
 
 def with_whole_paths(text: str) -> str:
-    """Replaces the paths of documents in a text by their installed paths."""
+    """Replaces paths of documents in a text by the paths at which the documents are installed."""
     text = re.sub(rf"docs/({'|'.join(PROGRAMS)})\.1", r"\1(1)", text)
     return re.sub(r"(?<![\w/-])docs/(?=[A-Z]+\.md)", f"/usr/{DOCUMENTS}/docs/", text)
 
 
-# ---------------------------------------------------------------- the parts
+# ---------------------------------------------------------------- the parts of the package
 
 
 def programs_of(top: str, programs: dict[str, bytes], origin: str) -> list[Member]:
-    """Returns the programs with their launchers, and the file `origin` with the text that
-    `--version` prints.
+    """Returns the programs and their launchers, and the file `origin`, which contains the output of
+    `--version`.
     """
     members = [Member(f"{LIBRARY}/origin", origin.encode())]
     for name, data in programs.items():
@@ -105,7 +106,9 @@ def programs_of(top: str, programs: dict[str, bytes], origin: str) -> list[Membe
 
 
 def by_installed_python(data: bytes) -> bytes:
-    """Rewrites the first line of a tool, if it is a command, so that Debian's Python runs it."""
+    """Rewrites the first line of a tool, so that Debian's own Python runs it. Other files are
+    returned unchanged.
+    """
     if data.startswith(PYTHON):
         return INSTALLED_PYTHON + data[len(PYTHON) :]
     if data.startswith(BY_SHELL):
@@ -114,7 +117,7 @@ def by_installed_python(data: bytes) -> bytes:
 
 
 def tools_of(top: str) -> list[Member]:
-    """Returns the tools with their modules, and the links by which they are commands."""
+    """Returns the tools and their modules, and a link for each tool, which makes it a command."""
     members = []
     for path, mode in tracked(top, "tools"):
         if path.split("/")[1] not in OF_CHECKOUTS:
@@ -130,7 +133,9 @@ def tools_of(top: str) -> list[Member]:
 
 
 def documents_of(top: str) -> list[Member]:
-    """Returns the documents and the examples, without links to files that aren't installed."""
+    """Returns the documents and the examples. Links to files that aren't installed are removed from
+    them.
+    """
     files = tracked(top, "README.md", "CHANGELOG.md", "LICENSE", "docs", "examples")
     paths = {path for path, mode in files if mode == 0o644 and not path.endswith(".1")}
     members = []
@@ -145,8 +150,8 @@ def documents_of(top: str) -> list[Member]:
 
 
 def without_dead_links(text: str, path: str, paths: set[str]) -> str:
-    """Replaces the links in a document to files that aren't in `paths` or below them by their
-    text.
+    """Replaces links in a document by their text, if they lead to files that aren't in `paths` or
+    below them.
     """
 
     def link(found: re.Match[str]) -> str:
@@ -158,7 +163,9 @@ def without_dead_links(text: str, path: str, paths: set[str]) -> str:
 
 
 def pages_of_programs(top: str, source: str) -> dict[str, bytes]:
-    """Returns the manual pages in `docs` by their names, with `source` in the foot of each page."""
+    """Returns the manual pages in `docs`, keyed by their names. The foot of each page contains
+    `source`.
+    """
     found = {}
     for name in PROGRAMS:
         text = (

@@ -1,5 +1,5 @@
-"""Parses the --help of a tool, and the launcher's text on the programs, for manual pages and
-completions.
+"""Parses the --help of a tool, and the launcher's help text for the programs. Manual pages and
+completions are generated from the result.
 """
 from __future__ import annotations
 
@@ -11,8 +11,8 @@ from dataclasses import dataclass, field
 
 from psicli.fault import Fault
 
-# The variables for a tool's --help: a fixed width, so that the output is the same on each machine,
-# and no colours.
+# The environment for --help. It sets a fixed width, so that the output is the same on each machine,
+# and switches colours off.
 ENVIRONMENT = {
     "COLUMNS": "100",
     "NO_COLOR": "1",
@@ -22,9 +22,9 @@ ENVIRONMENT = {
 }
 SECTION = re.compile(r"(positional arguments|options|optional arguments):")
 ITEM = re.compile(r" {2}(\S.*?)(?: {2,}(\S.*))?")
-# A command and its description. The description of a long name begins in the next line.
+# Matches a command and its description. The description of a long name begins on the next line.
 COMMAND = re.compile(r" {4}([a-z][a-z-]*)(?: {2,}(\S.*))?")
-# An option in a usage: its name, and the name of its value or the possible values.
+# Matches an option in a usage: its name, and the name of its value or the possible values.
 OPTION = re.compile(r"(--?[a-z][a-z0-9-]*)(?:[ =](\{[^}]*\}|'[^']*'|[A-Z][A-Z0-9_:=.]*))?")
 
 
@@ -38,8 +38,9 @@ class Item:
 
 @dataclass
 class Help:
-    """The parts of --help: the usage without the tool's name, the paragraphs before the arguments,
-    the arguments and options, the commands with their descriptions, and the paragraphs after these.
+    """The parts of --help. `usage` doesn't contain the tool's name. `before` contains the
+    paragraphs before the arguments, and `after` those after the last list. The lists are the
+    arguments, the options, and the commands with their descriptions.
     """
 
     usage: str
@@ -61,7 +62,7 @@ def said_by(words: list[str]) -> str:
 
 
 def help_of(path: str, *command: str) -> Help:
-    """Returns the help of a tool, or of one of its commands."""
+    """Returns the parsed help of a tool, or of one of its commands."""
     return help_in(said_by([sys.executable, "-B", path, *command, "--help"]))
 
 
@@ -85,7 +86,7 @@ def help_in(text: str) -> Help:
 
 
 def usage_without_name(words: str) -> str:
-    """Returns the part of a usage after the names of the tool and of its command."""
+    """Returns a usage without the names of the tool and of its command."""
     _, *rest = words.split(" ")
     while rest and re.fullmatch("[a-z][a-z-]*", rest[0]):
         rest.pop(0)
@@ -93,7 +94,9 @@ def usage_without_name(words: str) -> str:
 
 
 def read_items(text: str, items: list[Item], commands: list[Item]) -> None:
-    """Adds the arguments or options of a section, and the commands listed below an argument."""
+    """Parses a section of --help. Adds its arguments or options to `items`, and the commands that
+    are listed below an argument to `commands`.
+    """
     rows = items
     for line in text.split("\n"):
         command, item = COMMAND.fullmatch(line), ITEM.fullmatch(line)
@@ -109,8 +112,8 @@ def read_items(text: str, items: list[Item], commands: list[Item]) -> None:
 
 
 def options_in(items: list[Item]) -> dict[str, str]:
-    """Returns the options among these items, each with its value as in the usage. The value is
-    empty if the option takes none.
+    """Returns the options among these items. Each option is mapped to the name of its value, as the
+    usage writes it, or to an empty string if it has no value.
     """
     found: dict[str, str] = {}
     for item in items:
@@ -121,8 +124,8 @@ def options_in(items: list[Item]) -> dict[str, str]:
 
 
 def commands_in(text: str, program: str) -> dict[str, dict[str, str]]:
-    """Returns the commands of a program in the launcher's --help, with the options of each and
-    their values. A program without commands has a single command with an empty name.
+    """Returns the commands of a program, as in the launcher's --help, with the options of each
+    command and their values. A program without commands has a single command with an empty name.
     """
     joined = re.sub(r"\n {10,}(?=\[)", " ", text)
     found: dict[str, dict[str, str]] = {}
