@@ -1,5 +1,5 @@
 """Builds the package for a test, and gives access to the contents of its archives and to the
-commands in the unpacked folder.
+commands in its unpacked folder.
 """
 from __future__ import annotations
 
@@ -26,8 +26,8 @@ COMPLETIONS = "share/bash-completion/completions"
 
 @dataclass(frozen=True)
 class Made:
-    """The package, built twice: the two archives of each build by suffix, their unpacked folders,
-    and the programs in them.
+    """The package, built twice. `first` and `second` have the archives of each build by suffix,
+    `tree` is the unpacked folder, and `programs` has the paths of the programs.
     """
 
     first: dict[str, bytes]
@@ -46,13 +46,13 @@ class Made:
         return sorted(os.listdir(self.path("bin")))
 
     def run(
-        self, name: str, *words: str, given: str = "", path_first: str = ""
+        self, name: str, *words: str, stdin: str = "", path_first: str = ""
     ) -> subprocess.CompletedProcess[str]:
-        """Runs an installed command from the root folder, with its own PATH, and without variables
-        that name a program.
+        """Runs an installed command from the root folder. PATH is fixed, and no variable names a
+        program.
         """
         path = self.path("bin", name)
-        # The tools require Debian's own Python; sh starts the programs.
+        # The tools need Debian's own Python, and the programs are started by sh.
         words = (path, *words) if os.access(PYTHON, os.X_OK) or "_" in name else (
             sys.executable, "-B", path, *words
         )
@@ -60,19 +60,20 @@ class Made:
             "PATH": f"{path_first}/usr/bin:/bin", "LC_ALL": "C.UTF-8",
             "HOME": os.path.dirname(self.tree),
         }
-        return subprocess.run(words, cwd="/", env=environment, input=given, capture_output=True,
+        return subprocess.run(words, cwd="/", env=environment, input=stdin, capture_output=True,
                               encoding="utf-8")
 
 
 def is_built(name: str, path: str) -> bool:
-    """Returns whether a program is identical to the one that the gate built."""
+    """Returns whether the program at `path` is identical to the last build of the program `name`.
+    """
     built = os.path.join(TOP, "crates", f"{name}_main", "out", f"{name}_main")
     return os.path.exists(built) and filecmp.cmp(path, built, shallow=False)
 
 
 def make(into: str, programs: dict[str, str], **more: str) -> dict[str, bytes]:
-    """Builds both archives into this folder, raises unless their printed checksums are right, and
-    returns them by suffix.
+    """Builds both archives into this folder, and returns them by suffix. Raises unless the printed
+    checksums are right.
     """
     words = [
         os.path.join(TOP, "tools", "package"), "--program", programs["psi_oomd"], "--observer",
@@ -86,10 +87,10 @@ def make(into: str, programs: dict[str, str], **more: str) -> dict[str, bytes]:
             (0, ""))
     found = {}
     for line in done.stdout.splitlines():
-        told, _, name = line.partition("  ")
+        digest, _, name = line.partition("  ")
         with open(os.path.join(into, name), "rb") as file:
             data = file.read()
-        must_be(f"the sum of {name}", told, hashlib.sha256(data).hexdigest())
+        must_be(f"the sum of {name}", digest, hashlib.sha256(data).hexdigest())
         found[re.sub(r".*_amd64", "", name)] = data
     must_be("what was made", list(found), [".deb", ".tar.gz"])
     return found
@@ -114,8 +115,8 @@ def members_of(data: bytes) -> dict[str, tarfile.TarInfo]:
 
 
 def files_of(data: bytes, top: str) -> dict[str, tuple[int, str, bytes]]:
-    """Returns the mode, the link target and the bytes of each file below the folder `top` of a tar
-    archive.
+    """Returns the mode, the link target and the bytes of each file in a tar archive below the
+    folder `top`.
     """
     found = {}
     with tarfile.open(fileobj=io.BytesIO(data)) as archive:
@@ -129,23 +130,25 @@ def files_of(data: bytes, top: str) -> dict[str, tuple[int, str, bytes]]:
 
 
 def skipped(name: str, what: str) -> bool:
-    """Returns whether a command isn't installed here; if so, prints which check is skipped."""
+    """Returns whether a command isn't installed on this machine. If it isn't, prints which check is
+    skipped.
+    """
     if not shutil.which(name):
         print(f"{name} isn't installed, so this is passed over: {what}")
     return not shutil.which(name)
 
 
-def control_of(made: Made) -> dict[str, bytes]:
-    files = files_of(lzma.decompress(parts_of(made.first[".deb"])["control.tar.xz"]), ".")
+def control_of(package: Made) -> dict[str, bytes]:
+    files = files_of(lzma.decompress(parts_of(package.first[".deb"])["control.tar.xz"]), ".")
     return {name: data for name, (_, _, data) in files.items()}
 
 
-def data_of(made: Made) -> bytes:
-    return lzma.decompress(parts_of(made.first[".deb"])["data.tar.xz"])
+def data_of(package: Made) -> bytes:
+    return lzma.decompress(parts_of(package.first[".deb"])["data.tar.xz"])
 
 
 def commands_of_definition() -> list[str]:
-    """Returns the commands in the usage line of psi_oomd's definition."""
+    """Returns the commands in the usage line that psi_oomd's specification defines."""
     with open(
         os.path.join(TOP, "crates", "run_spec", "specs", "Status.antt"), encoding="utf-8"
     ) as file:
@@ -154,22 +157,22 @@ def commands_of_definition() -> list[str]:
     return found[1].split(" or ") if found else []
 
 
-def offered_by_bash(made: Made, *words: str) -> list[str]:
-    """Returns bash's completions of the last word, in the folder of the examples."""
+def offered_by_bash(package: Made, *words: str) -> list[str]:
+    """Returns bash's completions of the last word. The working folder contains the examples."""
     script = (
         '. "$0"; COMP_WORDS=("$@"); COMP_CWORD=$(($# - 1)); _psi_oomd "$1"; printf "%s\\n" '
         '"${COMPREPLY[@]}"'
     )
-    file, folder = made.path(COMPLETIONS, words[0]), made.path(DOCUMENTS, "examples")
+    file, folder = package.path(COMPLETIONS, words[0]), package.path(DOCUMENTS, "examples")
     done = subprocess.run(["bash", "-c", script, file, *words], cwd=folder, capture_output=True,
                           encoding="utf-8")
     must_be(f"what bash says of {words}", (done.returncode, done.stderr), (0, ""))
     return done.stdout.split()
 
 
-def offered_by_zsh(made: Made, *words: str) -> list[str]:
-    """Returns zsh's completions of the last word. Replacements of zsh's own functions print the
-    matches.
+def offered_by_zsh(package: Made, *words: str) -> list[str]:
+    """Returns zsh's completions of the last word. Functions of zsh are replaced so that they print
+    the matches.
     """
     script = """offer() {
         local -a found; found=(${(M)@:#${word}*}); print -rl -- $found; (( $#found ))
@@ -179,7 +182,7 @@ def offered_by_zsh(made: Made, *words: str) -> list[str]:
     compset() { word=${word#*=} }
     words=("${@[2,-1]}"); CURRENT=$#words; word=$words[-1]; source "$1" """
     file, folder = (
-        made.path("share/zsh/vendor-completions/_psi_oomd"), made.path(DOCUMENTS, "examples"),
+        package.path("share/zsh/vendor-completions/_psi_oomd"), package.path(DOCUMENTS, "examples"),
     )
     call = ["zsh", "-fc", f"complete_it() {{ {script} }}; complete_it \"$@\"", "zsh", file, *words]
     done = subprocess.run(call, cwd=folder, capture_output=True, encoding="utf-8")

@@ -29,17 +29,17 @@ def words_of_service(unit: str, room: str) -> list[str]:
     ).stdout.splitlines()
 
 
-def check_the_service(made: Made, room: str) -> None:
-    """The service runs psi-record with arguments that psi-record accepts. In systemd's syntax `$$`
+def check_the_service(package: Made, room: str) -> None:
+    """psi-record accepts the arguments with which the service runs it. In systemd's syntax `$$`
     means `$` and `%%` means `%`.
     """
-    unit = made.text("lib/systemd/system/psi-record.service")
+    unit = package.text("lib/systemd/system/psi-record.service")
     words = words_of_service(unit, room)
     must(re.fullmatch(re.escape(room) + r"/20\d\d-\d\d-\d\dT\d\d-\d\d-\d\dZ", words[0]),
          f"the folder of a recording: {words[0]}")
-    # With an empty folder in place of the machine, the recorder accepts the arguments and then
-    # reports what is missing.
-    done = made.run("psi-record", *words, "--root", room)
+    # If an empty folder replaces the machine, the recorder accepts the arguments, and then reports
+    # what is missing.
+    done = package.run("psi-record", *words, "--root", room)
     must(done.returncode == 2 and "there must be" in done.stderr and "usage" not in done.stderr,
          f"psi-record {words}: {done.stderr}")
     limits = re.findall(r"^(?:StartLimit\w+|RestrictAddressFamilies)=.*$", unit, re.MULTILINE)
@@ -50,16 +50,16 @@ def check_the_service(made: Made, room: str) -> None:
     must_be("what is kept", words[-6:-2], ["--keep", "20", "--keep-mb", "4000"])
     must(
         "WantedBy=" in unit
-        and not os.path.exists(made.path("lib/systemd/system/multi-user.target.wants")),
+        and not os.path.exists(package.path("lib/systemd/system/multi-user.target.wants")),
         "it isn't enabled",
     )
     must_be("what the first boot of a machine makes of it",
-            made.text("lib/systemd/system-preset/50-psi-oomd.preset"),
+            package.text("lib/systemd/system-preset/50-psi-oomd.preset"),
             "disable psi-record.service\ndisable psi-sample.service\n")
 
 
-def check_what_systemd_says_of_the_service(made: Made, room: str) -> None:
-    unit = made.text("lib/systemd/system/psi-record.service")
+def check_what_systemd_says_of_the_service(package: Made, room: str) -> None:
+    unit = package.text("lib/systemd/system/psi-record.service")
     said = os.path.join(room, "psi-record")
     with open(said, "w", encoding="utf-8") as file:
         file.write("#!/bin/sh\n")
@@ -70,13 +70,13 @@ def check_what_systemd_says_of_the_service(made: Made, room: str) -> None:
             file.write(unit.replace("/usr/bin/psi-record", said))
         found = subprocess.run(["systemd-analyze", "verify", "--man=no", path], capture_output=True,
                                encoding="utf-8")
-        told = [it for it in found.stderr.splitlines() if "psi-record" in it]
-        must_be("what systemd-analyze says", told, [])
+        messages = [it for it in found.stderr.splitlines() if "psi-record" in it]
+        must_be("what systemd-analyze says", messages, [])
 
 
-def check_the_service_of_samples(made: Made, room: str) -> None:
-    """The service runs psi-sample with arguments that psi-sample accepts."""
-    unit = made.text("lib/systemd/system/psi-sample.service")
+def check_the_service_of_samples(package: Made, room: str) -> None:
+    """psi-sample accepts the arguments with which the service runs it."""
+    unit = package.text("lib/systemd/system/psi-sample.service")
     line = re.findall(
         r"^ExecStart=/bin/sh -c 'exec /usr/bin/psi-sample (.*)'$", unit, re.MULTILINE
     )[0].replace("$$", "$")
@@ -88,7 +88,7 @@ def check_the_service_of_samples(made: Made, room: str) -> None:
         ["sh", "-c", f"printf '%s\\n' {line}"], env=environment, check=True, capture_output=True,
         encoding="utf-8",
     ).stdout
-    done = made.run("psi-sample", *words.splitlines(), "--root", room)
+    done = package.run("psi-sample", *words.splitlines(), "--root", room)
     must(done.returncode == 2 and "no pressure files" in done.stderr,
          f"psi-sample {words}: {done.stderr}")
     must("DynamicUser=yes" in unit and f"{room}/samples.csv" in words,

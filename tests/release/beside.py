@@ -1,5 +1,5 @@
-"""What the release checks use from other folders: the program that tests run, modules of tests/,
-and the traces that bench/ generates.
+"""Makes the modules of tests/ and bench/ importable for the release checks. Re-exports the helpers
+that find or build the program under test.
 """
 from __future__ import annotations
 

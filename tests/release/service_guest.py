@@ -1,11 +1,12 @@
-"""The part of tests/release/service that runs in the guest: the load that causes the recordings,
-and the watcher of the folder of recordings. It needs nothing but Python.
+"""The part of tests/release/service that runs in the virtual machine: the load that causes
+recordings, and the watcher of the recordings' folder. It needs only Python.
 
 usage: service_guest.py load
        service_guest.py watch FOLDER BY_HAND KEEP KEEP_MB MINUTES
 
-The watcher scans the folder every second, with code of its own: it finds recordings that are being
-written in /proc/locks. It prints a line for each minute and each fault, and a last line `watched`.
+The watcher scans the folder every second. It shares no code with the service, and finds the
+recordings that are being written in /proc/locks. It prints a line for each minute and each fault,
+and a last line that begins with `watched`.
 """
 from __future__ import annotations
 
@@ -16,19 +17,19 @@ from dataclasses import dataclass, field
 
 SCAN_SECONDS = 1.0
 MEGABYTE = 10**6
-# The load of a phase, in turn: its length (s), and how long (s) each process runs between two
-# pauses. Short runs give many events, so the sizes of recordings differ.
+# Phases of the load. Each has a length (s), and the time (s) for which a process runs between two
+# pauses. Short runs cause many events, so the sizes of recordings differ.
 PHASES = ((20.0, 0.0005), (20.0, 0.02), (20.0, 0.1))
 PROCESSES = 4
-# How long (s) all processes want to run in each second.
+# The time (s) in each second for which all processes try to run.
 BUSY_SECONDS = 0.2
 PAUSE_SECONDS = 0.0002
 
 
 @dataclass
 class Found:
-    """A recording that a scan found: its bytes, when its `meta` was written last (ns), and whether
-    a recorder was writing it at any time during the scan.
+    """A recording that a scan found: its size (bytes), the time when its `meta` was last written
+    (ns), and whether a recorder was writing it at any time during the scan.
     """
 
     bytes: int
@@ -38,8 +39,9 @@ class Found:
 
 @dataclass
 class Minute:
-    """What the scans of a minute found: the most finished recordings and their most bytes, and the
-    recordings that began, and that were deleted by number and by size.
+    """The results of the scans in a minute: the largest number and the largest total size (bytes)
+    of finished recordings, the number of recordings that began, and how many were deleted because
+    of the limit on their number and because of the limit on their size.
     """
 
     most: int = 0
@@ -50,14 +52,16 @@ class Minute:
 
 
 def locked() -> set[int]:
-    """Returns the inodes of the files that have a lock of flock(2)."""
+    """Returns the inodes of all files that are locked with flock(2)."""
     with open("/proc/locks", encoding="ascii") as file:
         rows = [line.split() for line in file]
     return {int(row[5].rpartition(":")[2]) for row in rows if row[1] == "FLOCK"}
 
 
 def size_of(path: str) -> int:
-    """Returns the bytes of all files below a folder. Files that are deleted meanwhile count 0."""
+    """Returns the size (bytes) of all files below a folder. Files that are deleted during the scan
+    count as 0 bytes.
+    """
     total = 0
     for above, _, names in os.walk(path):
         for name in names:
@@ -69,8 +73,9 @@ def size_of(path: str) -> int:
 
 
 def scan(folder: str) -> dict[str, Found]:
-    """Returns the recordings in the folder by name. A recording counts as being written if it was
-    at the beginning or at the end of the scan: in between, one may end and another begin.
+    """Returns the recordings in the folder by name. A recording counts as being written if it is
+    locked at the beginning or at the end of the scan, since one recording may end and another begin
+    in between.
     """
     before, metas, found = locked(), {}, {}
     for name in os.listdir(folder):
@@ -88,7 +93,7 @@ def scan(folder: str) -> dict[str, Found]:
 
 @dataclass
 class Watcher:
-    """Compares each scan with the limits and with the scan before it."""
+    """Compares each scan with the limits and with the previous scan."""
 
     keep: int
     keep_bytes: int
@@ -100,12 +105,12 @@ class Watcher:
     deleted: int = 0
 
     def fault(self, what: str) -> None:
-        """Prints a fault."""
+        """Counts and prints a fault."""
         self.faults += 1
         print(f"FAULT {what}", flush=True)
 
     def look(self, found: dict[str, Found]) -> None:
-        """Checks what one scan found."""
+        """Checks the recordings that a scan found against the limits and the previous scan."""
         finished = [it for it in found.values() if not it.is_written]
         total = sum(it.bytes for it in finished)
         self.minute.most = max(self.minute.most, len(finished))
@@ -120,8 +125,8 @@ class Watcher:
         self.before = found
 
     def compare(self, found: dict[str, Found]) -> None:
-        """Checks which recordings were deleted since the scan before: never one that was being
-        written, and only the oldest.
+        """Checks which recordings were deleted since the previous scan: only the oldest, and none
+        that was being written.
         """
         gone = {name: it for name, it in self.before.items() if name not in found}
         stayed = [it for name, it in self.before.items() if name in found and not it.is_written]
@@ -134,14 +139,15 @@ class Watcher:
         self.minute.begun += new
         self.begun += new
         self.deleted += len(gone)
-        # At its end a recording counts too: without the limit of bytes `keep` of them would stay.
+        # A recording counts as soon as it ends. If at least `keep` recordings remain together with
+        # it, the limit on their number has caused the deletion.
         if len(stayed) + 1 >= self.keep:
             self.minute.deleted_by_number += len(gone)
         else:
             self.minute.deleted_by_size += len(gone)
 
     def end_minute(self, number: int) -> None:
-        """Prints the figures of a minute, and begins the next one."""
+        """Prints the results of a minute, and begins the next one."""
         it = self.minute
         print(
             f"minute {number}: {it.begun} begun, {it.deleted_by_number} deleted by number and"
@@ -153,7 +159,7 @@ class Watcher:
 
 
 def watch(folder: str, by_hand: str, keep: int, keep_mb: float, minutes: int) -> None:
-    """Watches the folder for this number of minutes."""
+    """Watches the folder for this many minutes."""
     watcher = Watcher(keep, int(keep_mb * MEGABYTE), by_hand)
     watcher.before = scan(folder)
     begin, minute = time.monotonic(), 1
@@ -171,7 +177,8 @@ def watch(folder: str, by_hand: str, keep: int, keep_mb: float, minutes: int) ->
 
 
 def run_for(run_seconds: float) -> None:
-    """Uses a processor at the beginning of a second, in runs of this length (s)."""
+    """Uses a processor from the beginning of a second for BUSY_SECONDS, in runs of this length (s).
+    """
     time.sleep(1 - time.time() % 1)
     until = time.monotonic() + BUSY_SECONDS
     while time.monotonic() < until:
@@ -182,7 +189,9 @@ def run_for(run_seconds: float) -> None:
 
 
 def load() -> None:
-    """Lets processes wait for one another each second, in phases with more and fewer switches."""
+    """Keeps the processors busy for a part of each second, in phases with many and with few task
+    switches.
+    """
     for _ in range(PROCESSES - 1):
         if not os.fork():
             break
@@ -194,7 +203,7 @@ def load() -> None:
 
 
 def main(arguments: list[str]) -> None:
-    """Runs the command line."""
+    """Parses the command line, and runs the load or the watcher."""
     if arguments == ["load"]:
         load()
     else:
