@@ -1,10 +1,10 @@
-"""Finds all definitions and types on which the contracts of the top calls rest.
+"""Finds all definitions and types on which the contracts of the programs depend.
 
 The search starts from the clauses of both functions `run` and of `observe`, and of the traits
-`Shelf` and `Sink`. It follows each name that they cite to its definition, then the names in that
-definition, and so on, also into the libraries of the kit (the language's toolchain), but not into
-its standard library. A definition is in a file of `specs/`, and a type in a file of `src/`. If a
-type has a `Model`, contracts see only that. The kit's own types aren't listed. If no kit is
+`Shelf` and `Sink`. It follows each name in them to its definition, then the names in that
+definition, and so on. That includes the libraries of the kit (the language's toolchain), except its
+standard library. A definition is in a file of `specs/`, and a type in a file of `src/`. If a type
+has a `Model`, contracts see only its model. The kit's own types aren't listed. If no kit is
 installed, the definitions in its libraries aren't followed.
 
 Names are found by their spelling, without the prover. The name of a parameter may be mistaken for a
@@ -23,19 +23,19 @@ from collections.abc import Iterator
 TOP = pathlib.Path(__file__).resolve().parent.parent
 CRATES = TOP / "crates"
 
-# The folder that stands for the kit's libraries in paths: `kit/json/specs/Lex.antt` is a file of
+# The folder of the toolchain's libraries in paths: `kit/json/specs/Lex.antt` is a file of
 # definitions of the library `json`.
 KIT = pathlib.Path("kit")
 
-# A contract from which the search starts: a file, and the words with which the function or the
-# trait begins there.
+# A contract from which the search starts: a file, and the words in that file with which the
+# declaration of the function or trait begins.
 Root = tuple[str, str]
 TRAITS: tuple[Root, ...] = (
     ("outside/src/shelf.rt", "pub trait Shelf "),
     ("outside/src/sink.rt", "pub trait Sink "),
 )
-# The contracts that a reader studies together: first those of psi_oomd and psi_observe, then that
-# of psi_convert.
+# Two sets of contracts. A reader studies all contracts of a set together: those of psi_oomd and
+# psi_observe, or the contract of psi_convert. The traits belong to both sets.
 READINGS: tuple[tuple[Root, ...], ...] = (
     (("replay_core/src/entry.rt", "pub fn run<"), ("observe_core/src/entry.rt", "pub fn observe<"),
      *TRAITS),
@@ -43,7 +43,7 @@ READINGS: tuple[tuple[Root, ...], ...] = (
 )
 ROOTS = tuple(dict.fromkeys(root for reading in READINGS for root in reading))
 
-# The crates of the kit's language and standard library, whose definitions aren't listed.
+# The crates of the language and of its standard library. Their definitions aren't listed.
 PLAIN = ("std", "core", "mathlib")
 
 NAME = re.compile(r"[^\W\d][\w'◌-]*")
@@ -51,7 +51,8 @@ DECLARED = re.compile(
     r"(?:unfoldable |abbrev |pub |record |data )*(?P<name>[\w'-]*◌[^\s:]*|[^\W\d][\w'-]*)(?= "
     r"[^=]*?:| *$)"
 )
-# The lines that begin a block of mutually recursive definitions, which are indented by two spaces.
+# Lines that begin a block of mutually recursive definitions. Such definitions are indented by two
+# spaces.
 BLOCKS = ("mutual", "abbrev mutual", "unfoldable mutual")
 IMPORT = re.compile(r"^ *(?:pub |ghost )*use ([\w.]+?)(?:\.\{([^}]*)\}| as (\w+));? *$",
                     re.MULTILINE)
@@ -68,8 +69,8 @@ class Item:
 
 @dataclasses.dataclass
 class Module:
-    """A file: the bodies of its definitions by name, its imported names with the module and the
-    name of each there, and the modules of its aliases.
+    """A parsed file. `bodies` has the text of each definition by name, `imports` the module and the
+    original name of each imported name, and `aliases` the module of each alias.
     """
 
     path: pathlib.Path
@@ -79,13 +80,13 @@ class Module:
 
 
 def without_comments(text: str, mark: str) -> str:
-    """Returns a text without its comments. A comment begins with `mark`, and ends with its line."""
+    """Returns a text without its comments. A comment reaches from `mark` to the end of its line."""
     return "\n".join(re.sub(rf"(^| ){mark}.*", "", line) for line in text.splitlines())
 
 
 def imports_of(text: str) -> tuple[dict[str, tuple[str, str]], dict[str, str]]:
-    """Returns the imports of a text: each name with its module and its name there; and modules by
-    their aliases.
+    """Parses the imports of a text. Returns the module and the original name of each imported name,
+    and the module of each alias.
     """
     names: dict[str, tuple[str, str]] = {}
     aliases: dict[str, str] = {}
@@ -121,8 +122,8 @@ def bodies_of(text: str) -> dict[str, str]:
 
 
 def types_of(text: str) -> dict[str, str]:
-    """Returns the body of each type in the text of a code file: its `Model` if it has one,
-    otherwise its declaration.
+    """Returns the body of each type in the text of a code file. The body is the type's `Model` if
+    it has one, and its declaration if not.
     """
     found = {}
     for one in re.finditer(
@@ -135,8 +136,8 @@ def types_of(text: str) -> dict[str, str]:
 
 
 def code_imports(text: str) -> dict[str, tuple[str, str]]:
-    """Returns the types that a code file imports, each with its crate and its name there. The crate
-    of the file itself is called `crate`.
+    """Returns the crate and the original name of each type that a code file imports. The file's own
+    crate is called `crate`.
     """
     found = {}
     for crate, listed, one in re.findall(
@@ -169,14 +170,18 @@ def file_of_type(crate: pathlib.Path, name: str) -> pathlib.Path | None:
 
 @functools.cache
 def kit_libraries() -> pathlib.Path | None:
-    """Returns the folder of the installed kit's libraries, or None if no kit is installed."""
+    """Returns the folder of the installed toolchain's libraries, or None if no toolchain is
+    installed.
+    """
     command = shutil.which("rt")
     folder = pathlib.Path(command).resolve().parents[1] / "rlibs" if command else None
     return folder if folder and folder.is_dir() else None
 
 
 def source_of(path: pathlib.Path) -> pathlib.Path | None:
-    """Returns the path of a file on disk. None for a file of the kit if no kit is installed."""
+    """Returns the path of a file on disk, or None for a file of the toolchain if no toolchain is
+    installed.
+    """
     if not path.is_relative_to(KIT):
         return path
     _, crate, _, name = path.parts
@@ -185,8 +190,8 @@ def source_of(path: pathlib.Path) -> pathlib.Path | None:
 
 
 def folder_of(crate: str) -> pathlib.Path | None:
-    """Returns the folder of a library of this repository or of the kit, or None if it isn't
-    listed.
+    """Returns the folder of the library `crate`, in this repository or in the toolchain. Returns
+    None if the library's definitions aren't listed.
     """
     if crate in PLAIN:
         return None
@@ -194,8 +199,8 @@ def folder_of(crate: str) -> pathlib.Path | None:
 
 
 def item_at(module: str, name: str, own: pathlib.Path) -> Item | None:
-    """Returns the item to which the name `name` of `module` refers, or None if such items aren't
-    listed. `own` is the crate's folder of the file that uses the name.
+    """Returns the definition or type `name` of the module `module`, or None if definitions of that
+    module aren't listed. `own` is the folder of the crate that uses the name.
     """
     if module.startswith("type "):
         crate = own if module == "type crate" else folder_of(module.removeprefix("type "))
@@ -216,8 +221,8 @@ def item_at(module: str, name: str, own: pathlib.Path) -> Item | None:
 
 
 def found_in(path: pathlib.Path, name: str) -> Item | None:
-    """Returns the definition with this name in a file. If the file imports the name, returns the
-    imported definition. If the name is that of a part of a definition, returns that definition.
+    """Returns the definition of `name` in a file. An imported name refers to the definition in the
+    other file. The name of a part, such as a field, refers to the whole definition.
     """
     module = module_at(path)
     if name in module.bodies:
@@ -230,7 +235,8 @@ def found_in(path: pathlib.Path, name: str) -> Item | None:
 
 
 def cited_in(body: str, module: Module) -> Iterator[tuple[str, str]]:
-    """Yields the names that a body cites, each with its module, which is '' for names of the file.
+    """Yields the names that a body uses, each with its module, or with '' if the file itself
+    defines the name.
     """
     for alias, there in module.aliases.items():
         yield from (
@@ -250,7 +256,7 @@ def cited_in(body: str, module: Module) -> Iterator[tuple[str, str]]:
 
 
 def cited_by(item: Item) -> Iterator[Item]:
-    """Yields the definitions and types that an item cites."""
+    """Yields the definitions and types that an item uses."""
     source = source_of(item.path)
     if source is None:
         return
@@ -267,7 +273,7 @@ def cited_by(item: Item) -> Iterator[Item]:
 
 
 def roots(starts: tuple[Root, ...]) -> Iterator[Item]:
-    """Yields the items that the clauses of these top calls and traits cite."""
+    """Yields the definitions and types that the contracts of these functions and traits use."""
     for name, begins in starts:
         path = CRATES / name
         text = without_comments(path.read_text(encoding="utf-8"), "//")
@@ -281,7 +287,7 @@ def roots(starts: tuple[Root, ...]) -> Iterator[Item]:
 
 @functools.cache
 def believed(starts: tuple[Root, ...] = ROOTS) -> frozenset[Item]:
-    """Returns all definitions and types on which the contracts of these top calls rest."""
+    """Returns all definitions and types on which these contracts depend, directly or indirectly."""
     reached: set[Item] = set()
     ahead = list(roots(starts))
     while ahead:
@@ -293,13 +299,13 @@ def believed(starts: tuple[Root, ...] = ROOTS) -> frozenset[Item]:
 
 
 def unreached(path: pathlib.Path) -> list[str]:
-    """Returns the definitions of a file on which no contract of a top call rests."""
+    """Returns the names of the definitions in a file on which no contract depends."""
     names = {item.name for item in believed() if item.path == path}
     return [name for name in module_at(path).bodies if name not in names]
 
 
 def has_model(item: Item) -> bool:
-    """Whether an item is a type of which contracts see only its `Model`."""
+    """Returns whether an item is a type that contracts see only through its `Model`."""
     return (
         item.path.suffix == ".rt" and "Model for" in module_at(item.path).bodies.get(item.name, "")
     )

@@ -1,4 +1,6 @@
-"""Finds the programs to measure, as the tests find the programs that they run."""
+"""Re-exports the helpers that find the programs to measure. A program is named by an option or by
+an environment variable. If neither names it, the program is built. The tests use the same helpers.
+"""
 from __future__ import annotations
 
 import os

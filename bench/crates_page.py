@@ -1,10 +1,10 @@
 #!/usr/bin/env python3
-"""Prints crates/README.md: a list of all crates in the groups of crates.txt, with the first
-sentence of each crate's header.
+"""Prints the page crates/README.md, which lists all crates under the headings of crates.txt, each
+with the first sentence of its header.
 
 usage: bench/crates_page.py [--write]
 
---write stores the page. `tests/house` compares the stored page with what this prints.
+--write stores the page. `tests/house` compares the stored page with this program's output.
 """
 from __future__ import annotations
 
@@ -30,7 +30,7 @@ def root_file(crate: str) -> pathlib.Path:
 
 
 def header_of(crate: str) -> list[str]:
-    """Returns the lines of a crate's header, without comment marks."""
+    """Returns the comment lines at the top of a crate's root file, without comment marks."""
     lines = root_file(crate).read_text(encoding="utf-8").splitlines()
     end = next((i for i, line in enumerate(lines) if not line.startswith("//!")), len(lines))
     return [line[3:].strip() for line in lines[:end]]
@@ -45,7 +45,7 @@ def summary_of(crate: str) -> str:
 
 
 def groups() -> list[tuple[str, list[str]]]:
-    """Returns the headings of crates.txt, each with its crates."""
+    """Returns the headings of crates.txt, each with the crates below it."""
     found: list[tuple[str, list[str]]] = []
     for line in (ROOT / "crates.txt").read_text(encoding="utf-8").splitlines()[1:]:
         if line.startswith("#"):
@@ -56,7 +56,7 @@ def groups() -> list[tuple[str, list[str]]]:
 
 
 def page() -> str:
-    """Returns the whole page."""
+    """Returns the whole page crates/README.md."""
     parts = [HEAD]
     for title, crates in groups():
         rows = "".join(f"| [{crate}]({crate}) | {summary_of(crate)} |\n" for crate in crates)
@@ -65,7 +65,7 @@ def page() -> str:
 
 
 def main() -> int:
-    """Prints or stores the page."""
+    """Prints the page crates/README.md, or stores it with --write."""
     if sys.argv[1:] not in ([], ["--write"]):
         print(__doc__, file=sys.stderr)
         return 2

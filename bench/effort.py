@@ -1,6 +1,6 @@
 #!/usr/bin/env python3
-"""Compares the cost of small runs of the programs with the figures stored in bench/effort.json, and
-prints the figures that rose.
+"""Measures the cost of small runs of the programs, compares it with the figures stored in
+bench/effort.json, and prints figures that rose.
 
 usage: bench/effort.py [--program PATH] [--store] [NAME ..]     (the built psi_oomd, and all runs of
     bench/effort_runs.py; of
@@ -47,8 +47,8 @@ HERE = os.path.dirname(os.path.abspath(__file__))
 STORED = os.path.join(HERE, "effort.json")
 TOOLS = ("valgrind", "strace", "time")
 MAY_RISE_PERCENT = 3.0
-# The peak of a run is the least of this number of runs. A rise by MAY_RISE_KB is always allowed,
-# since the system counts pages in batches.
+# The peak memory of a run is measured this number of times, and the least value counts. A rise by
+# MAY_RISE_KB is always allowed, since the system counts pages in batches.
 PEAKS = 3
 PEAK = "peak in KB"
 MAY_RISE_KB = 256
@@ -60,7 +60,7 @@ CALLS = {
     "threads": ("clone", "clone3", "fork", "vfork"),
     "memory calls": ("mmap", "mremap", "munmap", "brk", "madvise"),
 }
-# Loading a program makes calls of these kinds too, which are subtracted.
+# Loading a program makes calls of these kinds. Their number is subtracted.
 LOADING = ("reads", "opens", "memory calls")
 
 # The figures of a run by name. The name contains the unit.
@@ -68,7 +68,7 @@ Figures = dict[str, float]
 
 
 class Failed(Exception):
-    """The error that a run can't be measured. The message says why."""
+    """Raised if a run can't be measured. The message says why."""
 
 
 def run_to_end(words: list[str], status: int = 0) -> None:
@@ -81,8 +81,8 @@ def run_to_end(words: list[str], status: int = 0) -> None:
 
 
 def instructions_of(words: list[str], room: str) -> int:
-    """Returns the number of instructions that all threads of a run execute, by callgrind.
-    Instructions before an `exec` don't count.
+    """Counts the instructions of all threads of a run with callgrind. Instructions before an `exec`
+    don't count.
     """
     counted = os.path.join(room, "callgrind")
     tool = ["valgrind", "--quiet", "--tool=callgrind", "--trace-children=yes", "--fair-sched=try"]
@@ -95,7 +95,7 @@ def instructions_of(words: list[str], room: str) -> int:
 
 
 def calls_of(words: list[str], room: str, status: int = 0) -> dict[str, int]:
-    """Returns the number of system calls of each kind in all threads of a run, by strace."""
+    """Counts the system calls of each kind in all threads of a run with strace."""
     counted = os.path.join(room, "strace")
     run_to_end(["strace", "-f", "-q", "-c", "-o", counted, *words], status)
     times = {}
@@ -107,8 +107,8 @@ def calls_of(words: list[str], room: str, status: int = 0) -> dict[str, int]:
 
 
 def peak_of(words: list[str], room: str) -> int:
-    """Returns the peak resident memory (KB) of a run. The program `time` starts the run, because
-    the system counts the memory of the parent process too, and `time` has little.
+    """Returns the peak resident memory (KB) of a run. The small program `time` starts the run,
+    because the system counts the memory of the parent process too.
     """
     counted = os.path.join(room, "time")
     peaks = []
@@ -125,7 +125,8 @@ def costs_of(run: Run) -> list[str]:
 
 
 def figures_of(run: Run, program: str, loading: dict[str, int], room: str) -> Figures:
-    """Measures a run of a program. `loading` has the numbers of calls of a run without arguments.
+    """Measures a run of a program. `loading` has the number of calls of each kind in a run without
+    arguments.
     """
     small, large = ([program, *run.words_for(size, room)] for size in run.sizes)
     at_first = instructions_of(small, room)
@@ -140,7 +141,7 @@ def figures_of(run: Run, program: str, loading: dict[str, int], room: str) -> Fi
 
 
 def may_differ(name: str, before: float, run: Run) -> float:
-    """Returns how much a figure may differ from the stored one."""
+    """Returns by how much a figure may differ from the stored figure."""
     if name in CALLS:
         return 0.0
     return before * (MAY_RISE_PERCENT + run.varies_percent) / 100 + (
@@ -149,8 +150,8 @@ def may_differ(name: str, before: float, run: Run) -> float:
 
 
 def faults_of(run: Run, stored: Figures, found: Figures) -> tuple[list[str], list[str]]:
-    """Returns a line for each figure of a run that is wrong, and a line for each figure that fell
-    so far that it may be stored again.
+    """Returns two lists of lines: the wrong figures of a run, and the figures that fell so far that
+    they should be stored again.
     """
     wrong: list[str] = []
     lower: list[str] = []
@@ -167,12 +168,16 @@ def faults_of(run: Run, stored: Figures, found: Figures) -> tuple[list[str], lis
 
 
 def system() -> str:
-    """Returns the machine's architecture and C library, on which the figures depend."""
+    """Returns the name of the machine's architecture and the version of its C library. The figures
+    depend on both.
+    """
     return ", ".join([platform.machine(), " ".join(platform.libc_ver())])
 
 
 def read_stored() -> tuple[str, dict[str, Figures]]:
-    """Returns the system on which the figures were stored, and the figures of each run."""
+    """Returns the name of the system on which the stored figures were measured, and the figures of
+    each run.
+    """
     if not os.path.exists(STORED):
         return system(), {}
     with open(STORED, encoding="utf-8") as file:
@@ -181,7 +186,9 @@ def read_stored() -> tuple[str, dict[str, Figures]]:
 
 
 def write_stored(figures: dict[str, Figures]) -> None:
-    """Stores the figures in the order of the runs."""
+    """Stores `figures`, the figures of each run by its name, in bench/effort.json. They are in the
+    order of RUNS.
+    """
     with open(STORED, "w", encoding="utf-8") as file:
         runs = {run.name: figures[run.name] for run in RUNS if run.name in figures}
         json.dump({"system": system(), "runs": runs}, file, indent=1)
@@ -189,8 +196,8 @@ def write_stored(figures: dict[str, Figures]) -> None:
 
 
 def compare(runs: list[Run], programs: dict[str, str], is_stored: bool) -> bool:
-    """Measures these runs and prints their figures. Stores them if `is_stored`. Returns whether no
-    figure is wrong, or true if they are stored.
+    """Measures `runs` and prints their figures. If `is_stored`, stores the figures and returns
+    true. If not, returns whether no figure is wrong.
     """
     where, stored = read_stored()
     if where != system():
@@ -251,8 +258,8 @@ def words_of(arguments: list[str]) -> tuple[list[str], bool, list[Run]]:
 
 
 def programs_of(named: list[str], runs: list[Run]) -> dict[str, str]:
-    """Returns the paths of the programs of these runs by name, and of psi_oomd, which generates
-    their inputs.
+    """Returns the path of each program that `runs` need, by the program's name. psi_oomd is
+    always included, because it generates the inputs.
     """
     others = {run.program for run in runs} - {"psi_oomd"}
     return {"psi_oomd": program_of(named)[0], **{name: program_of([], name)[0] for name in others}}

@@ -1,8 +1,9 @@
 """Defines the runs that bench/effort.py measures, and writes their inputs.
 
-A run shows wasted work that contracts don't exclude: threads that are started at each tick instead
-of once, a thread pool of another size than requested, rows that are computed but not printed,
-patterns that are matched again and again, or system calls that read one byte.
+Each run would show one kind of wasted work that contracts don't exclude. Examples are threads that
+are started at each tick instead of once, a thread pool whose size differs from the requested size,
+rows that are computed but not printed, patterns that are matched repeatedly, and system calls that
+read one byte.
 """
 from __future__ import annotations
 
@@ -14,14 +15,16 @@ import subprocess
 
 
 class Step(str, enum.Enum):
-    """The unit in which the sizes of a run's inputs are given."""
+    """The unit of the input sizes of a run."""
 
     LINE = "line"
     TICK = "tick"
 
 
 class Trace(enum.Enum):
-    """The kind of trace that a run reads. Its size is in lines or in ticks."""
+    """The kind of trace that a run reads. The run's `step` says whether the size of the trace is a
+    number of lines or of ticks.
+    """
 
     NONE = "none"
     BUSY = "busy"
@@ -31,7 +34,7 @@ class Trace(enum.Enum):
     QUIET = "quiet"
 
 
-# The arguments of `gen` for each trace that it generates. A thousand events span about a second.
+# The arguments of `gen` for each kind of generated trace. A thousand events span about a second.
 SHAPES = {
     Trace.BUSY: ("--seed", "1", "--cpus", "8", "--groups", "40"),
     Trace.SMALL: ("--seed", "1", "--cpus", "2", "--groups", "10"),
@@ -44,8 +47,8 @@ TICK_NS = 2 * 10**9
 
 @dataclasses.dataclass(frozen=True)
 class Run:
-    """A run of a program with inputs of two sizes. In its arguments TRACE and RULES are replaced by
-    the paths of its inputs, and SIZE by the size.
+    """A run of a program, with inputs of two sizes. In the arguments `words`, TRACE and RULES are
+    replaced by the paths of the input files, and SIZE by the size of the input.
     """
 
     name: str
@@ -53,15 +56,16 @@ class Run:
     trace: Trace
     sizes: tuple[int, int] = (20_000, 60_000)
     step: Step = Step.LINE
-    # Whether no thread may be started, so that the number of memory calls is always the same.
+    # Whether the run must not start a thread. Only runs without threads have a constant number of
+    # memory calls.
     is_alone: bool = False
-    # The variation of instructions and memory from run to run (percent).
+    # How much the numbers of instructions and of bytes vary from run to run (percent).
     varies_percent: float = 0.0
     program: str = "psi_oomd"
 
     def words_for(self, size: int, room: str) -> list[str]:
-        """Returns the arguments for an input of this size, which `write_inputs` wrote to the folder
-        `room`.
+        """Returns the arguments for an input of this size. The input files are in the folder
+        `room`, into which `write_inputs` wrote them.
         """
         stands = {
             "TRACE": trace_path(room, self.trace, size), "RULES": rules_path(room),
@@ -124,9 +128,7 @@ def rules_path(room: str) -> str:
 
 
 def quiet_trace(ticks: int) -> str:
-    """Returns a trace of two processors that has events only at its beginning, and lasts `ticks`
-    ticks.
-    """
+    """Returns a trace of two processors that lasts `ticks` ticks. All its events are at time 0."""
     lines = ["psitrace 1 cpus=2"]
     for cpu in (0, 1):
         lines += [f"0 fork {cpu + 1} / {cpu}", f"0 switch {cpu} {cpu + 1} idle"]
@@ -134,8 +136,8 @@ def quiet_trace(ticks: int) -> str:
 
 
 def rules() -> str:
-    """Returns a rules file with sixteen rulesets, which fire at each evaluation, and which have
-    each kind of action over all groups.
+    """Returns a rules file with sixteen rulesets that fire at each evaluation. Each ruleset has
+    actions of all kinds over all groups.
     """
     detectors = [
         {
@@ -167,7 +169,7 @@ def write_trace(program: str, trace: Trace, size: int, path: str) -> None:
 
 
 def write_inputs(program: str, runs: list[Run], room: str) -> None:
-    """Writes the inputs of the runs."""
+    """Writes the rules file and the traces of all runs into the folder `room`."""
     with open(rules_path(room), "w", encoding="utf-8") as file:
         file.write(rules())
     for trace, size in sorted({(run.trace.value, size) for run in runs for size in run.sizes}):

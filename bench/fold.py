@@ -1,16 +1,16 @@
 #!/usr/bin/env python3
-"""Measures folding: lines a second of the folded trace, us of processor time an event, and the peak
-of memory.
+"""Measures how fast traces are folded: lines of the folded trace per second, processor time per
+event (us), and peak memory.
 
 usage: bench/fold.py [SECONDS [CPUS [SERVICES [LEAST_US MOST_US]]]]     (4, 4, 12, 20 and 200 if
     left out)
        bench/fold.py --trace SECONDS CPUS SERVICES LEAST_US MOST_US     (prints the trace and folds
                                                                         nothing)
 
-The trace has services that call each other, like those of a web server: each has six threads and a
-group, and there are 0.75 tokens a service. A thread that takes a token computes for LEAST_US to
-MOST_US, sometimes waits for IO or stalls, and passes the token to a random service. Processor time
-is that of this process and its children.
+The trace has services that call each other, like those of a web server: each service has a group
+with six threads, and there are 0.75 tokens per service. A thread that gets a token computes for
+LEAST_US to MOST_US, sometimes waits for IO or stalls, and passes the token to a random service.
+Processor time includes child processes.
 """
 from __future__ import annotations
 
@@ -31,14 +31,15 @@ from psifold.fold import Fold  # noqa: E402
 
 THREADS = 6
 SLICES = ("/system.slice", "/user.slice", "/batch.slice")
-# The longest turn, and the shortest and longest wait for IO (ns).
+# The longest time for which a thread runs without a break, and the shortest and the longest wait
+# for IO (ns).
 TURN, LEAST_IO, MOST_IO = 3_000_000, 200_000, 3_000_000
 Line = tuple[int, str]
 
 
 class Services:
-    """The simulated machine. `left` has the time (ns) that each thread must still compute before it
-    passes its token on, and `due` has the future events by time (ns).
+    """The simulated machine. `remaining` is the time (ns) that each thread must still compute
+    before it passes its token on. `due` has the scheduled events by time (ns).
     """
 
     def __init__(self, cpus: int, services: int, least: int, most: int) -> None:
@@ -51,7 +52,7 @@ class Services:
         self.queue = [0] * services
         self.ready: list[deque[int]] = [deque() for _ in range(cpus)]
         self.running = [0] * cpus
-        self.left: dict[int, int] = {}
+        self.remaining: dict[int, int] = {}
         self.waited: set[int] = set()
         self.due: list[tuple[int, int, str, int]] = []
         self.count = 0
@@ -78,19 +79,21 @@ class Services:
         yield end, "end"
 
     def later(self, time_ns: int, what: str, about: int) -> None:
-        """Schedules a call of the method `what` with the argument `about` for a later time (ns)."""
+        """Schedules a call of the method `what`, with the argument `about`, at `time_ns`."""
         self.count += 1
         heapq.heappush(self.due, (time_ns, self.count, what, about))
 
     def call(self, service: int, time_ns: int) -> Iterator[Line]:
-        """Passes a token to a service."""
+        """Passes a token to a service, one of whose threads must process it."""
         if self.idle[service]:
             yield from self.wake(self.idle[service].popleft(), time_ns)
         else:
             self.queue[service] += 1
 
     def wake(self, number: int, time_ns: int) -> Iterator[Line]:
-        """Wakes a thread on its last processor, or on an idle or a random one if that is busy."""
+        """Wakes a thread on its last processor, or, if that is busy, on an idle or a random
+        processor.
+        """
         cpu = self.home[number]
         if self.running[cpu] or self.ready[cpu]:
             idle = [it for it in range(self.cpus) if not self.running[it] and not self.ready[it]]
@@ -104,24 +107,22 @@ class Services:
             self.later(time_ns + self.draw.randrange(1000, 6000), "schedule", cpu)
 
     def schedule(self, cpu: int, time_ns: int) -> Iterator[Line]:
-        """Yields the lines by which an idle processor starts a ready thread."""
+        """Yields the lines with which an idle processor starts a ready thread."""
         if not self.running[cpu] and self.ready[cpu]:
             number = self.ready[cpu].popleft()
             yield time_ns, f"switch {cpu} {number} idle"
             self.start(number, cpu, time_ns)
 
     def start(self, number: int, cpu: int, time_ns: int) -> None:
-        """Begins a turn of a thread, which lasts at most TURN."""
+        """Starts a thread on a processor. The thread runs for at most TURN (ns)."""
         self.running[cpu] = number
-        left = self.left[number] = (
-            self.left.get(number) or self.draw.randrange(self.least, self.most) * 1000
+        remaining = self.remaining[number] = (
+            self.remaining.get(number) or self.draw.randrange(self.least, self.most) * 1000
         )
-        self.later(time_ns + min(left, TURN), "done", cpu)
+        self.later(time_ns + min(remaining, TURN), "done", cpu)
 
     def leave(self, cpu: int, time_ns: int, how: str) -> Iterator[Line]:
-        """Yields the switch by which the running thread leaves a processor, and the next thread
-        runs.
-        """
+        """Yields the switch from the running thread to the next ready thread, or to none."""
         following = self.ready[cpu].popleft() if self.ready[cpu] else 0
         yield time_ns, f"switch {cpu} {following} {how}"
         self.running[cpu] = 0
@@ -129,11 +130,11 @@ class Services:
             self.start(following, cpu, time_ns)
 
     def done(self, cpu: int, time_ns: int) -> Iterator[Line]:
-        """Ends the turn of a processor's running thread."""
+        """Stops a processor's running thread at the end of its time slice."""
         number = self.running[cpu]
-        self.left[number] -= min(self.left[number], TURN)
+        self.remaining[number] -= min(self.remaining[number], TURN)
         service = (number - 1) // THREADS
-        if self.left[number]:
+        if self.remaining[number]:
             if self.ready[cpu]:
                 self.ready[cpu].append(number)
                 yield from self.leave(cpu, time_ns, "preempt")
@@ -141,15 +142,15 @@ class Services:
                 self.start(number, cpu, time_ns)
         elif service < 3 and number not in self.waited and self.draw.random() < 0.03:
             self.waited.add(number)
-            self.left[number] = 5000
+            self.remaining[number] = 5000
             yield from self.leave(cpu, time_ns, "iowait")
             self.later(time_ns + self.draw.randrange(LEAST_IO, MOST_IO), "wake", number)
         else:
             yield from self.hand_on(cpu, number, service, time_ns)
 
     def hand_on(self, cpu: int, number: int, service: int, time_ns: int) -> Iterator[Line]:
-        """Passes the token of a thread on. The thread takes the next token of its service, or
-        sleeps.
+        """Passes the token of the thread `number` on to a random service. The thread then takes the
+        next waiting token of its own service, or sleeps if there is none.
         """
         self.waited.discard(number)
         if service == 5 and self.draw.random() < 0.02:
@@ -176,8 +177,8 @@ def processor_seconds() -> float:
 
 
 def measure(lines: list[str], cpus: int, window: float, seconds: float) -> str:
-    """Folds these lines into windows of `window` s, and returns the row of the table with the
-    measurements. The trace has `seconds` s.
+    """Folds these lines into windows of `window` s. Returns a table row with the measured values.
+    The trace is `seconds` s long.
     """
     start, begun = processor_seconds(), time.monotonic()
     fold = Fold(cpus, round(window * 10**9), lambda _: None)

@@ -1,20 +1,22 @@
 #!/usr/bin/env python3
-"""Times the gate: runs `rt ci` at the top of the repository, and reports where the time went.
+"""Times the gate: runs `rt ci` at the top of the repository, and reports how long each crate
+took.
 
 usage: bench/gate.py [--anew | --dear]
 
---anew  proves again what an earlier run on this machine proved and stored; ignored if this `rt`
-        stores nothing and so has no such option
---dear  runs nothing: lists the functions whose stored borrow-checker walk has at least 3 MB, the
-        largest first. The cause is a deep value that goes out of scope at many exits
-        (docs/DECISIONS.md, "What makes proofs expensive")
+--anew  also proves what an earlier run on this machine proved and stored. The option is ignored if
+        the installed `rt` doesn't have it.
+--dear  runs nothing. It lists the functions whose stored borrow-checker walk has at least 3 MB, the
+        largest first. A walk becomes large if a deeply nested value goes out of scope at many exits
+        (docs/DECISIONS.md, "What makes proofs expensive").
 
-Prints what `rt ci` prints, then the wall-clock minutes. Then, for each crate and in total, the
-costliest first: minutes of processor time for its proofs, the proofs of its tests and its must-fail
-edits; and when its first check began, its proofs ended and its last check ended, in minutes after
-the start. The running checks are sampled once a second, so the time of a crate that takes only a
-few seconds is too low; the last lines print what the system counted in total. Run it under `taskset
--c 0,1` to time a machine with two processors. Ends with the status of `rt ci`.
+Prints the output of `rt ci` and the wall-clock minutes, and then a table with a row for each crate,
+the costliest first, and a total. Three columns have the minutes of processor time for the crate's
+proofs, for the proofs of its tests, and for its must-fail edits. Three more columns have the times
+at which its first check began, its proofs ended and its last check ended (minutes after the start).
+The running checks are sampled once a second, so the time of a crate that takes only a few seconds
+is too low. The last lines have the total times that the system counted. To time a machine with two
+processors, run it under `taskset -c 0,1`. The exit status is that of `rt ci`.
 """
 
 from __future__ import annotations
@@ -32,13 +34,13 @@ from typing import NamedTuple
 ROOT = pathlib.Path(__file__).resolve().parent.parent
 TICKS = os.sysconf("SC_CLK_TCK")
 KINDS = ("proof", "tests", "edits")
-# The least size (bytes) of a function's stored borrow-checker walk that --dear lists.
+# `--dear` lists functions whose stored borrow-checker walk has at least this size (bytes).
 DEAR = 3_000_000
 
 
 class Work(NamedTuple):
-    """The checks of one kind of a crate: their processor time (s), and the times at which the first
-    and the last of them were sampled (s after the start).
+    """The processor time (s) of all checks of one kind for a crate, and the times at which the
+    first and the last of these checks were sampled (s after the start).
     """
 
     seconds: float
@@ -50,7 +52,7 @@ Works = dict[tuple[str, str], Work]
 
 
 def words_of(process: pathlib.Path) -> list[str]:
-    """Returns the arguments with which a process was started, or nothing if it has ended."""
+    """Returns the arguments of a running process, or an empty list if the process has ended."""
     try:
         return process.joinpath("cmdline").read_text(errors="replace").split("\0")
     except OSError:
@@ -58,11 +60,11 @@ def words_of(process: pathlib.Path) -> list[str]:
 
 
 def check_of(process: pathlib.Path, gate: int) -> tuple[str, str] | None:
-    """Returns the crate that a process checks and the kind of check, or None if the process isn't a
-    check that the gate started.
+    """Returns the crate that a process checks and the kind of the check (see KINDS). Returns None
+    if the process isn't a check that the process `gate` started.
 
-    The child processes of a check don't count, since the system adds their time to that of the
-    check when they end.
+    Child processes of a check aren't counted by themselves. When a child ends, the system adds its
+    time to the time of the check.
     """
     words = words_of(process)
     if "--crate-name" not in words or not words[0].endswith("/rattle") or parent_of(
@@ -80,8 +82,8 @@ def check_of(process: pathlib.Path, gate: int) -> tuple[str, str] | None:
 
 
 def numbers_of(process: pathlib.Path) -> list[str]:
-    """Returns the fields of a process's `stat` from its state on (proc(5)), or nothing if the
-    process has ended.
+    """Returns the fields of /proc/PID/stat after the process's name (see proc(5)), or an empty list
+    if the process has ended.
     """
     try:
         return process.joinpath("stat").read_text().rpartition(")")[2].split()
@@ -90,19 +92,19 @@ def numbers_of(process: pathlib.Path) -> list[str]:
 
 
 def parent_of(process: pathlib.Path) -> int | None:
-    """Returns the number of the process that started this one, or None if it has ended."""
+    """Returns the process id of a process's parent, or None if the process has ended."""
     numbers = numbers_of(process)
     return int(numbers[1]) if numbers else None
 
 
 def processor_time(process: pathlib.Path) -> float:
-    """Returns the processor time (s) of a process so far, with its children that have ended."""
+    """Returns the processor time (s) that a process and its ended children have used."""
     return sum(map(int, numbers_of(process)[11:15])) / TICKS
 
 
 def watch(gate: subprocess.Popen[bytes], start: float) -> Works:
-    """Samples the checks of the gate, which started at `start` (s, monotonic clock), until it ends.
-    Returns the work by crate and kind.
+    """Samples the running checks of the gate until the gate ends. Returns the processor time (s) by
+    crate and kind of check. `start` is the gate's start (s, monotonic clock).
     """
     taken: dict[tuple[int, str, str], Work] = {}
     while gate.poll() is None:
@@ -124,8 +126,8 @@ def watch(gate: subprocess.Popen[bytes], start: float) -> Works:
 
 
 def row(name: str, works: dict[str, Work]) -> str:
-    """Returns the row of a crate: minutes of processor time by kind of check, and the times
-    (minutes) at which its first check began, its proofs ended and its last check ended.
+    """Returns the table row of a crate: its processor time (minutes) by kind of check, and the
+    times (minutes) at which its first check began, its proofs ended and its last check ended.
     """
     minutes = [works[kind].seconds / 60 if kind in works else 0.0 for kind in KINDS]
     begun = min(work.begun for work in works.values()) / 60
@@ -135,7 +137,7 @@ def row(name: str, works: dict[str, Work]) -> str:
 
 
 def table(works: Works) -> str:
-    """Returns a row for each crate, the costliest first, and a row for the total."""
+    """Returns the table: a row for each crate, the costliest first, and a row for the total."""
     crates: dict[str, dict[str, Work]] = collections.defaultdict(dict)
     for (crate, kind), work in works.items():
         crates[crate][kind] = work
@@ -150,8 +152,8 @@ def table(works: Works) -> str:
 
 
 def dear_walks() -> list[tuple[int, str, str]]:
-    """Returns the stored walks of at least DEAR bytes, the largest first: bytes, crate and
-    function.
+    """Returns the size (bytes), the crate and the function of each stored borrow-checker walk of at
+    least DEAR bytes, the largest first.
     """
     found: dict[tuple[str, str], int] = {}
     for stored in ROOT.glob("crates/*/out/incremental/*/*.Lts.oantt"):
@@ -163,7 +165,8 @@ def dear_walks() -> list[tuple[int, str, str]]:
 
 
 def keeps_between_runs() -> bool:
-    """Whether this `rt` stores proofs for the next run of the gate, and so has the option `--anew`.
+    """Returns whether the installed `rt` stores proofs for later runs. Such a version has the
+    option `--anew`.
     """
     said = subprocess.run(
         ["rt", "help"], stdout=subprocess.PIPE, stderr=subprocess.STDOUT, text=True, check=False
@@ -172,7 +175,9 @@ def keeps_between_runs() -> bool:
 
 
 def main() -> int:
-    """Runs the gate and prints its times, or lists the large walks."""
+    """Runs the gate and prints its times, or lists the large borrow-checker walks (--dear). Returns
+    the exit status.
+    """
     words = sys.argv[1:]
     if words not in ([], ["--anew"], ["--dear"]):
         print(re.sub(r"\n\n.*", "", __doc__.split("usage: ")[1], flags=re.S), file=sys.stderr)

@@ -1,5 +1,5 @@
-"""Generates a trace of an hour of the largest machine that a trace may have, and rules that take
-the most work to evaluate.
+"""Generates an hour-long trace with the largest allowed number of processors, groups, tasks and
+triggers, and rules that take the most work to evaluate.
 """
 from __future__ import annotations
 
@@ -15,8 +15,8 @@ Plugin = dict[str, "str | dict[str, str]"]
 
 
 def patterns() -> str:
-    """Returns an argument with the most patterns that it may have. They match the groups of each
-    depth from 1 to 16.
+    """Returns a `cgroup` argument with the largest allowed number of patterns. They match the
+    groups of each depth from 1 to 16.
     """
     return ",".join("/".join(["*"] * depth) for depth in range(1, 17))
 

@@ -3,9 +3,9 @@
 
 usage: bench/import_time.py [--program PATH]     (the built program)
 
-The text is a stored recording, repeated with later times. Both programs run five times, in turns.
-Prints the best wall-clock time (s) of each, their ratio and, if GNU time is installed, the peak
-memory of `import`. This is a benchmark, which asserts nothing.
+The text is a stored recording that is repeated with later times. The programs run alternately, five
+times each. Prints the best wall-clock time (s) of each, their ratio and, if GNU time is installed,
+the peak memory of `import`. This is a benchmark, which asserts nothing.
 """
 from __future__ import annotations
 
@@ -42,7 +42,7 @@ def long_text(path: str) -> None:
 
 
 def measure(program: str, folder: str) -> None:
-    """Times both programs in turns, and prints the result."""
+    """Runs both programs alternately, and prints their times."""
     path = os.path.join(folder, "text")
     long_text(path)
     runs = [

@@ -2,11 +2,12 @@
 """Simulates a machine whose services compute, wait for IO and thrash in episodes, and prints the
 trace of its scheduler events.
 
-usage: bench/machines.py SEED SECONDS [--processors N] [--services N] [--depth] > TRACE
+usage: bench/machines.py SEED SECONDS [--processors N] [--slices N] [--services N] [--busy N]
+    > TRACE
 
-Each processor has a run queue, and time slices have 10 ms. A task that wakes chooses the processor
-with the shorter queue of two random processors. Each second the trace has a sample of every group's
-memory, swap and scanned pages.
+Each processor has a run queue, and a time slice is 10 ms. A task that wakes chooses the shorter
+queue of two random processors. Each second the memory, the swap and the scanned pages of all groups
+are sampled.
 """
 from __future__ import annotations
 
@@ -25,8 +26,8 @@ HOST, SWAP = 16 * GB, 4 * GB
 
 
 class Service:
-    """A group without children: its memory, swap (bytes) and scanned pages, and the episodes of its
-    load, each with start and end (ns), kind and intensity.
+    """A group without children. It has a memory size and a swap size (bytes), a number of scanned
+    pages, and load episodes: each has a start and an end (ns), a kind and an intensity.
     """
 
     def __init__(self, path: str, rng: random.Random, seconds: int, is_busy: bool) -> None:
@@ -43,14 +44,16 @@ class Service:
             at += length + rng.randrange(5, 90)
 
     def episode(self, time: int) -> tuple[str, float]:
-        """Returns the kind of the load at `time`, and its intensity from 0 to 1."""
+        """Returns the kind of the load at `time` (ns), and its intensity from 0 to 1."""
         return next(
             ((kind, force) for begin, end, kind, force in self.episodes if begin <= time < end),
             ("calm", 0.1),
         )
 
     def sample(self, time: int) -> None:
-        """Advances the memory, the swap and the scanned pages by a second."""
+        """Advances the memory (bytes), the swap (bytes) and the number of scanned pages by one
+        second, by the load at `time` (ns).
+        """
         kind, force = self.episode(time)
         if kind == "thrash":
             self.memory = min(6 * GB, int(self.memory * (1 + 0.04 * force)))
@@ -62,8 +65,8 @@ class Service:
 
 
 class Task:
-    """A task. `burst` is the time (ns) that it still runs before it leaves its processor, `leaves`
-    how it leaves, and `sleep` the time (ns) for which it then sleeps.
+    """A task. It runs for `burst` ns and then sleeps for `sleep` ns. `leaves` says why it stops
+    running: it sleeps, waits for IO ("iowait") or stalls for memory ("thrash").
     """
 
     def __init__(self, number: int, service: Service) -> None:
@@ -72,7 +75,7 @@ class Task:
         self.is_stalled = self.ends_stall = False
 
     def plan(self, time: int) -> None:
-        """Chooses the next burst, according to the service's load at `time` (ns)."""
+        """Chooses the task's next burst and sleep by the load of its service at `time` (ns)."""
         rng = self.service.rng
         kind, force = self.service.episode(time)
         self.ends_stall, self.leaves = self.is_stalled, "sleep"
@@ -133,7 +136,9 @@ class Machine:
         yield f"{self.end} end"
 
     def happen(self, time: int, kind: str, what: int | Task) -> Iterator[str]:
-        """Handles a scheduled event: a task wakes, memory is sampled, or a time slice ends."""
+        """Executes a scheduled event at `time` (ns): a task wakes, memory is sampled, or a time
+        slice ends. Yields the trace lines.
+        """
         if isinstance(what, Task):
             first, second = self.rng.randrange(self.processors), self.rng.randrange(self.processors)
             what.cpu = min(first, second,
@@ -147,14 +152,17 @@ class Machine:
             yield from self.stop(time, what)
 
     def ready(self, time: int, task: Task) -> Iterator[str]:
-        """Makes a task ready. It runs at once if its processor is idle."""
+        """Adds a task to the run queue of its processor. The task runs at once if the processor is
+        idle.
+        """
         self.queues[task.cpu].append(task)
         if self.runs[task.cpu] is None:
             yield from self.start(time, task.cpu, "idle")
 
     def start(self, time: int, cpu: int, how: str) -> Iterator[str]:
-        """Switches a processor to the next task of its queue, or to none. The running task leaves
-        by `how`.
+        """Switches a processor to the next task of its queue, or to the idle task if the queue is
+        empty. `how` is the last word of the `switch` line. It says why the previous task stopped,
+        and is "idle" if no task ran.
         """
         if not self.queues[cpu]:
             self.runs[cpu] = None
@@ -171,7 +179,9 @@ class Machine:
         self.push(self.slices[cpu], "slice", cpu)
 
     def stop(self, time: int, cpu: int) -> Iterator[str]:
-        """Ends a time slice of a processor's running task, which may also end the task's burst."""
+        """Ends the time slice of a processor's running task. If the task's burst is over, the
+        processor switches to another task.
+        """
         task = self.runs[cpu]
         assert task
         task.burst -= min(SLICE, task.burst)
@@ -190,7 +200,9 @@ class Machine:
             yield from self.start(time, cpu, "iowait" if waits else "sleep")
 
     def sample(self, time: int) -> Iterator[str]:
-        """Yields all samples of memory."""
+        """Yields the lines of a memory sample at `time` (ns): one for the host and one for each
+        group.
+        """
         for service in self.services:
             service.sample(time)
         used = sum(it.swap for it in self.services)
@@ -207,7 +219,9 @@ class Machine:
 
 
 def small_tree(services: int) -> list[str]:
-    """Returns the paths of three slices, and of `services` services in them."""
+    """Returns the paths of three slices, and of `services` services that are distributed over the
+    slices.
+    """
     slices = ("/system.slice", "/batch.slice", "/user.slice")
     return [*slices, *(f"{slices[number % 3]}/s{number}.service" for number in range(services))]
 

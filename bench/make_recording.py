@@ -1,13 +1,14 @@
 #!/usr/bin/env python3
-"""Makes a recording from a trace, in the form in which tools/record writes recordings. It serves to
-measure tools/psitrace on recordings of any length.
+"""Makes a recording from a trace, in the format of tools/record, to measure the speed of
+tools/psitrace on recordings of any length.
 
 usage: bench/make_recording.py TRACE FOLDER [TIMES]     (1 if TIMES is left out)
 
-TRACE must create its groups and tasks at its start, and have only wakeups, switches and stalls
-otherwise. FOLDER is created. The pages have the layout of the kernel of the stored recording mix-2.
-The pages are repeated TIMES times, each with later times. At the start of a repetition the tasks'
-states differ from those at the end of the previous one, which psitrace repairs and counts.
+TRACE must create its groups and tasks at its start. All other lines must be wakeups, switches and
+stalls. FOLDER is created. The pages have the layout of the kernel of the stored recording mix-2.
+The pages are repeated TIMES times; the timestamps of each copy are later. At the start of a
+repetition the tasks' states differ from those at the end of the previous one, which psitrace
+repairs and counts.
 """
 from __future__ import annotations
 
@@ -29,7 +30,7 @@ HOWS = {"preempt": 0, "sleep": 1, "iowait": 2, "exit": 32, "idle": 0}
 
 
 class Record:
-    """Builds records of an event, with integers in the fields `names`. All other bytes are 0."""
+    """Encodes records of an event. The fields `names` are integers, and all other bytes are 0."""
 
     def __init__(self, form: Format, names: tuple[str, ...]) -> None:
         fields = [form.fields[name] for name in ("common_type", *names)]
@@ -41,7 +42,7 @@ class Record:
         ]
 
     def bytes(self, *values: int) -> bytes:
-        """Returns the bytes of a record with these values."""
+        """Returns the bytes of a record whose fields have these values."""
         data = bytearray(self.size)
         for (pack, offset), value in zip(self.layouts, (self.number, *values)):
             pack(data, offset, value)
@@ -49,7 +50,7 @@ class Record:
 
 
 class Pages:
-    """Writes the pages of a processor. A page is written to the file when it is full."""
+    """Writes a processor's pages to a file. A page is written when it is full."""
 
     def __init__(self, name: str) -> None:
         self.file = open(name, "wb")
@@ -106,7 +107,7 @@ class Recording:
             file.write(text)
 
     def take(self, time_ns: int, words: list[str]) -> None:
-        """Writes the records of the events that a line of the trace describes."""
+        """Writes the records of the events for a line of the trace."""
         verb = words[0]
         if verb == "group":
             self.snapshot.append(f"group {words[1]} none")
@@ -139,7 +140,9 @@ class Recording:
 
 
 def later(data: bytes, times: int, length: int) -> Iterator[bytes]:
-    """Yields the pages `times` times, each copy later than the previous one by `length` ns."""
+    """Yields `times` copies of the pages. The timestamps of each copy are `length` ns later than in
+    the copy before.
+    """
     heads = [struct.unpack_from("<Q", data, at)[0] for at in range(0, len(data), PAGE)]
     for turn in range(times):
         found = bytearray(data)
@@ -155,8 +158,8 @@ def main(arguments: list[str]) -> None:
         recording = Recording(folder, int(file.readline().partition("cpus=")[2]))
         for line in file:
             time_ns, *words = line.split()
-            # Tasks and groups of the initial state (time 0) are only in the snapshot. The tasks
-            # sleep.
+            # A task or group that exists at time 0 is only in the snapshot, in which the task
+            # sleeps.
             if words[0] in ("group", "fork") or int(time_ns):
                 recording.take(START + int(time_ns), words)
     recording.end()

@@ -3,12 +3,11 @@
 
 usage: make_trace.py EVENTS TASKS [CPUS [GROUPS [DEPTH [SEED]]]]     (1, 0, 1 and 1 if left out)
 
-EVENTS is the number of lines after the header, including the `end` line. GROUPS groups are created,
-in chains of DEPTH groups below the root. TASKS tasks are created in the deepest group of each
-chain, or in the root if there are no groups. In the other lines a random task of a random processor
-runs, waits for IO, sleeps, or wakes, sometimes on another processor; a running task enters or
-leaves a memory stall; a ready task migrates; a task moves to another group; or a group's memory is
-sampled. Lines are up to 2 us apart, as on a busy machine.
+EVENTS is the number of lines after the header, including the `end` line. The trace creates GROUPS
+groups, in chains of DEPTH groups below the root, and TASKS tasks in the deepest groups of the
+chains, or in the root if GROUPS is 0. The other lines are random: a task runs, waits for IO, sleeps
+or wakes, enters or leaves a memory stall, migrates, or moves to another group, or a group's memory
+is sampled. Lines are up to 2 us apart, as on a busy machine.
 """
 from __future__ import annotations
 
@@ -18,8 +17,8 @@ from collections.abc import Iterator
 
 
 def group_paths(groups: int, depth: int) -> tuple[list[str], list[str]]:
-    """Returns the paths of all groups, parents first, and the path of the deepest group of each
-    chain.
+    """Returns the paths of all groups, parents before children, and the path of the deepest group
+    of each chain.
     """
     paths: list[str] = []
     lowest: list[str] = []
@@ -33,8 +32,8 @@ def group_paths(groups: int, depth: int) -> tuple[list[str], list[str]]:
 
 
 class Machine:
-    """The state of processors and tasks after the lines so far. Most methods make a random change,
-    and return the words of its line.
+    """The state of the processors and tasks after the lines generated so far. Most methods make a
+    random change and return its trace line without the time.
     """
 
     def __init__(self, draw: random.Random, cpus: int, tasks: int, homes: list[str]) -> None:
@@ -54,7 +53,7 @@ class Machine:
         return f"fork {pid} {self.homes[(pid - 1) % len(self.homes)]} {cpu}"
 
     def take(self, pids: list[int]) -> int:
-        """Removes and returns a random pid."""
+        """Removes a random pid from the list, and returns it."""
         place = self.draw.randrange(len(pids))
         pids[place], pids[-1] = pids[-1], pids[place]
         return pids.pop()
@@ -90,7 +89,9 @@ class Machine:
         return f"switch {cpu} {following or 0} {how}"
 
     def rare(self, cpu: int, tasks: int) -> str | None:
-        """Returns the words of a rarer kind of line, or None if that kind isn't possible now."""
+        """Returns a random line of a rare kind, without its time: a memory stall begins or ends, a
+        task migrates or moves, or memory is sampled. Returns None if the kind isn't possible now.
+        """
         kind = self.draw.randrange(8)
         running = self.running[cpu]
         if kind < 4 and running is not None:
@@ -107,7 +108,7 @@ class Machine:
         return None
 
     def line(self, tasks: int) -> str:
-        """Returns the words of a random line, about a random processor."""
+        """Returns a random line about a random processor, without its time."""
         cpu = self.draw.randrange(self.cpus)
         line = self.rare(cpu, tasks) if self.draw.randrange(8) == 0 else None
         if line is not None:

@@ -5,9 +5,9 @@ their instructions per line, and times a trace of the largest machine.
 usage: bench/measure.py [--program PATH] [--rounds N] [--events N]     (the built program, 10
     rounds, 3600000 events)
 
-Prints for each command: instructions a line (by callgrind, if installed; they don't depend on the
-machine); the best and the median wall-clock time, and the median processor time, relative to `wc
--lw` on the same file; and the peak resident memory (MB, by GNU time). Then it prints how many
+Prints for each command the instructions per line (by callgrind, if installed; they don't depend on
+the machine), the best and the median wall-clock time and the median processor time relative to `wc
+-lw` on the same file, and the peak resident memory (MB, by GNU time). Then it prints how many
 seconds an hour of the largest allowed machine takes, with 1,024 actions at each evaluation. This is
 a benchmark, which asserts nothing. README has the latest table.
 """
@@ -27,8 +27,8 @@ from effort import instructions_of, peak_of
 from greatest import greatest_lines, greatest_rules
 
 SHAPE = ("--seed", "1", "--cpus", "8", "--groups", "40")
-# The sizes (lines) of two traces. The difference of the instructions for these, divided by the
-# difference of their sizes, is the number of instructions per line.
+# The sizes (lines) of a short and a long trace. The instructions per line are the difference of the
+# instructions for both, divided by the difference of the sizes.
 SHORT, LONG = 20_000, 60_000
 COMMANDS: dict[str, tuple[str, ...]] = {
     "check": ("check", "TRACE"),
@@ -80,7 +80,8 @@ def with_trace(program: str, words: tuple[str, ...], trace: str) -> list[str]:
 
 
 def instructions(program: str, room: str) -> dict[str, float]:
-    """Returns the instructions per line of each command, or nothing if callgrind isn't installed.
+    """Returns the instructions per line of each command, or an empty dict if callgrind isn't
+    installed.
     """
     if shutil.which("valgrind") is None:
         return {}
@@ -97,7 +98,9 @@ def instructions(program: str, room: str) -> dict[str, float]:
 
 
 def in_turns(runs: dict[str, list[str]], rounds: int) -> dict[str, list[Taken]]:
-    """Times each run once per round, so that a time at which the machine is busy slows all runs."""
+    """Times each run once in each round, so that a busy period of the machine affects all runs
+    equally.
+    """
     taken: dict[str, list[Taken]] = {name: [] for name in runs}
     for _ in range(rounds):
         for name, words in runs.items():
@@ -106,8 +109,8 @@ def in_turns(runs: dict[str, list[str]], rounds: int) -> dict[str, list[Taken]]:
 
 
 def row(name: str, counted: float | None, peak: int, taken: list[Taken], count: list[Taken]) -> str:
-    """Returns a row of the table: the instructions per line of a command, its times relative to
-    `count` (the times of `wc -lw`), and its peak memory (KB, printed in MB).
+    """Returns the table row of a command: its instructions per line, its times relative to `count`
+    (the times of `wc -lw`), and its peak memory. `peak` is in KB, and is printed in MB.
     """
     best = min(it.clock for it in taken) / min(it.clock for it in count)
     clock = (

@@ -7,11 +7,11 @@ usage: bench/oomd_differences.py [CASES [DEFAULT_CASES]]     (400 and 200 if lef
        bench/oomd_differences.py --binary [CASES]            (compares the emulation with oomd
                                                              itself in each case, 100 if left out)
 
-It begins with the 58 experiments of tests/oomd, whose answers come from oomd itself. Generated
-incidents with usual rules follow: at ticks of a second, when both programs look at the same times,
-and at psi_oomd's default ticks of two seconds, when they don't. Kills of oomd are those of
-tools/oomd. If the first kills differ, the cause is the smallest set of oomd's rules that leads to
-psi_oomd's first kill when psi_oomd's rules replace them.
+The first cases are the 58 experiments of tests/oomd, with kills by oomd itself. Generated incidents
+with typical rules follow. With ticks of one second, both programs evaluate at the same times; with
+psi_oomd's default ticks of two seconds, they don't. For these incidents, the kills of oomd come
+from the emulation tools/oomd. If the first kills differ, the cause is the smallest set of oomd's
+rules that leads to psi_oomd's first kill when psi_oomd's rules replace them.
 """
 from __future__ import annotations
 
@@ -48,23 +48,24 @@ INTERVALS = (1, 5)
 Patch = tuple[type, str, object]
 
 
-# ---------------------------------------------------------------- psi_oomd's rules replace oomd's
+# ---------------------------------------------------------------- rules of psi_oomd in place of
+# oomd's
 
 
 def scan_ranks(self: ByScans, look: Look, paths: list[str]) -> Ranked:
-    """Ranks only groups whose count of scanned pages rose."""
+    """Ranks only groups whose number of scanned pages rose since the previous evaluation."""
     return {path: it for path, it in OWN_SCANS(self, look, paths).items() if it[0][0] > 0}
 
 
 def pressure_ranks(self: ByPressure, look: Look, paths: list[str]) -> Ranked:
-    """Ranks groups by the exact sum of two averages, if it is above 0."""
+    """Ranks groups by the exact sum of avg10 and avg60, and leaves out groups whose sum is 0."""
     found = {path: look.machine.pressure(path, self.args["resource"]) for path in paths}
     sums = {path: it.avg10 + it.avg60 for path, it in found.items()}
     return {path: ((it,), "") for path, it in sums.items() if it > 0}
 
 
 def read_greatest(self: Above, look: Look) -> None:
-    """Stores the greatest value of each average among the groups."""
+    """Stores the greatest value among the groups for each of the averages."""
     found = [
         look.machine.pressure(it, self.resource) for it in look.machine.among(self.args["cgroup"])
     ]
@@ -73,8 +74,8 @@ def read_greatest(self: Above, look: Look) -> None:
 
 
 def reclaim_run(self: Reclaim, look: Look) -> Result:
-    """Returns whether pages were recently scanned for a group that existed at the previous
-    evaluation.
+    """Returns whether pages were scanned recently, counting only groups that existed at the
+    previous evaluation.
     """
     machine = look.machine
     paths = machine.among(self.args["cgroup"])
@@ -88,7 +89,9 @@ def reclaim_run(self: Reclaim, look: Look) -> Result:
 
 
 def size_ranks(self: BySize, look: Look, paths: list[str]) -> Ranked:
-    """Ranks groups with a task by their growth relative to the mean of their last four sizes."""
+    """Ranks groups that contain a task by their growth relative to the mean of their last four
+    sizes.
+    """
     live = [it for it in paths if look.machine.is_populated(it)]
     past = {look.machine.group(it): HISTORY.get(look.machine.group(it), [])[-PAST:] for it in live}
     averages: Any = {group: sum(it) / len(it) if it else 0 for group, it in past.items()}
@@ -99,7 +102,7 @@ def size_ranks(self: BySize, look: Look, paths: list[str]) -> Ranked:
 def at_last(
     self: Killer, look: Look, path: str, candidates: list[Candidate]
 ) -> list[tuple[str, list[Candidate]]]:
-    """Returns the group at `path` as victim, unless a descendant can be the victim."""
+    """Returns the group at `path` as the victim if none of its descendants can be the victim."""
     if not look.machine.is_populated(path):
         return []
     below = look.machine.children(path) if self.is_recursive else []
@@ -110,7 +113,7 @@ def at_last(
 
 
 def remembered(self: Engine, now: int) -> None:
-    """Evaluates the rules once, and then stores the present size of each group."""
+    """Evaluates the rules once, and then stores the current size of each group."""
     OWN_LOOK(self, now)
     for path, group in self.machine.world.live.items():
         HISTORY.setdefault(group, []).append(self.machine.current(path))
@@ -135,7 +138,8 @@ FIRST_LOOK = "pressure_rising_beyond begins at 100"
 
 @contextlib.contextmanager
 def switched(names: tuple[str, ...]) -> Iterator[None]:
-    """Replaces the rules of oomd with these names by psi_oomd's, until the context ends."""
+    """Replaces the named rules of oomd with those of psi_oomd in the body of the `with` statement.
+    """
     HISTORY.clear()
     with contextlib.ExitStack() as stack:
         stack.enter_context(mock.patch.object(Engine, "look", remembered))
@@ -154,12 +158,12 @@ def run_from_zero(self: Rising, look: Look) -> Result:
 OWN_RISING = Rising.run
 
 
-# ---------------------------------------------------------------- cases
+# ---------------------------------------------------------------- comparing kills case by case
 
 
 @dataclass
 class Case:
-    """A trace with rules, and the kills of both programs."""
+    """A trace with rules, and the kills of psi_oomd and of oomd."""
 
     run: Run
     rules: list[Kill]
@@ -170,7 +174,9 @@ class Case:
         return self.rules[:1] == self.oomd[:1]
 
     def cause(self) -> str:
-        """Returns why the first kills differ."""
+        """Returns why the first kills differ: the names of one or two differing rules that explain
+        it, or a general reason if none do.
+        """
         names = [*SWITCHES, FIRST_LOOK]
         for count in (1, 2):
             for some in itertools.combinations(names, count):
@@ -185,7 +191,9 @@ def kills_of(run: Run) -> list[Kill]:
 
 
 def case(folder: str, seed: int, tick_ms: int | None, interval: int) -> Case:
-    """Returns the case of a generated incident and usual rules."""
+    """Generates an incident and rules with this seed, replays them with both programs, and returns
+    the kills.
+    """
     names = [os.path.join(folder, it) for it in ("t.trace", "r.json")]
     plugins = usual_rules(seed)
     for name, text in zip(names, (incident(seed // 2), plugins)):
@@ -203,7 +211,9 @@ def share(count: int, total: int) -> str:
 
 
 def tell(title: str, cases: list[Case]) -> None:
-    """Prints the share of cases in which both programs agree, by different measures."""
+    """Prints the percentages of cases in which the kills of both programs agree, by several
+    measures.
+    """
     found = [it for it in cases if it.rules or it.oomd]
     print(f"{title}: {len(cases)} cases, {len(found)} with kills")
     rows: dict[str, Callable[[Case], bool]] = {
@@ -241,7 +251,7 @@ def tell_experiments() -> None:
 
 def by_binary(count: int) -> int:
     """Compares the emulation of oomd with oomd itself in `count` cases. Returns 1 if a kill
-    differs, unless oomd's choice has an equal rank.
+    differs, and 0 if none does. Groups of equal rank count as the same victim.
     """
     kills = wrong = 0
     with tempfile.TemporaryDirectory() as folder:
@@ -270,8 +280,8 @@ def main() -> int:
         same = [case(folder, seed, TICK_MS, INTERVALS[seed % 2]) for seed in range(counts[0])]
         tell_experiments()
         tell("incidents, ticks of a second, interval 1 or 5 s", same)
-        # All cases use the same file names, so the files of a case are written again before its
-        # cause is found.
+        # All cases share the same file names, so each case's files must be written again before its
+        # cause is searched.
         tell_causes(
             [remade(folder, seed, it) for seed, it in enumerate(same) if not it.is_first_same()]
         )
@@ -282,7 +292,7 @@ def main() -> int:
 
 
 def remade(folder: str, seed: int, it: Case) -> Case:
-    """Returns an equal case, whose files are written again into a folder of its own."""
+    """Returns a copy of a case, whose files are written again into a folder of its own."""
     own = os.path.join(folder, str(seed))
     os.mkdir(own)
     return case(own, seed, TICK_MS, it.run.interval)

@@ -1,5 +1,5 @@
-"""Generates traces of incidents on machines with systemd, and usual rules for them, for
-bench/oomd_differences.py. A seed always gives the same incident.
+"""Generates traces of memory and IO incidents on machines with systemd, and typical rules files,
+for bench/oomd_differences.py. A seed always gives the same incident.
 """
 from __future__ import annotations
 
@@ -16,7 +16,7 @@ SERVICES = (
     "/batch.slice/index.service",
 )  # fmt: skip
 KINDS = {"leak": 1, "burst": 3, "swap": 1, "io": 1, "quiet": 0, "two": 2}
-"""How many services misbehave in each kind of incident."""
+"""The number of misbehaving services in each kind of incident."""
 KILLED = (
     "system.slice/*,user.slice/user-*.slice/session-*.scope,user.slice/user-*.slice/user@*.service/"
     "*,batch.slice/*"
@@ -47,12 +47,12 @@ class Incident:
     homes: dict[int, str] = field(default_factory=dict)
 
     def put(self, at: int, text: str) -> None:
-        """Adds a line at a time (ns)."""
+        """Adds the line `text` at the time `at` (ns)."""
         self.lines.append((at, len(self.lines), text))
 
     def start(self) -> None:
-        """Chooses the machine's sizes and the services that misbehave, and writes the lines that
-        create groups and tasks.
+        """Chooses the sizes of the machine and the services that will misbehave, and writes the
+        lines that create groups and tasks.
         """
         draw = self.draw
         self.memory = draw.choice((2, 4, 8)) * GIB
@@ -81,8 +81,8 @@ class Incident:
             self.put(0, f"switch {task - 1} 0 sleep")
 
     def grow(self, second: int) -> float:
-        """Advances the memory of all services by a second. Returns the shortage of memory, from 0
-        to 1.
+        """Advances the memory use of all services by one second. Returns the shortage of memory,
+        from 0 (none) to 1.
         """
         draw = self.draw
         for it in self.services:
@@ -101,7 +101,9 @@ class Incident:
         return min(1.0, excess / (self.memory * 0.03))
 
     def sample(self, second: int) -> None:
-        """Writes the samples of a second. A group's size includes its children's."""
+        """Writes the memory samples at the start of the second number `second`. A group's size
+        includes the sizes of its descendants.
+        """
         at = second * SECOND
         for group in ("/", *self.groups):
             inside = [
@@ -130,7 +132,9 @@ class Incident:
         self.states[task] = state
 
     def advance(self, second: int, shortage: float) -> None:
-        """Changes the states of tasks in a second, in five steps of 200 ms."""
+        """Changes the states of tasks during the second number `second`, in five steps of 200 ms.
+        `shortage` is the shortage of memory, from 0 (none) to 1.
+        """
         draw, is_storm = self.draw, self.kind == "io" and self.begin <= second < self.stop
         for step in range(5):
             at = second * SECOND + step * 200 * MS
@@ -197,7 +201,7 @@ def debian(draw: random.Random) -> list[Rules]:
 
 
 def own(draw: random.Random) -> list[Rules]:
-    """Returns a random ruleset that resembles rulesets in use."""
+    """Returns a random ruleset that resembles those in common use."""
     resource, watched = draw.choice(("io", "memory", "memory", "memory")), draw.choice(WATCHED)
     pressure = {
         "cgroup": watched, "resource": resource, "threshold": draw.choice((5, 10, 20, 40, 60)),
@@ -230,8 +234,8 @@ def own(draw: random.Random) -> list[Rules]:
 
 
 def usual_rules(seed: int) -> str:
-    """Returns the rules file with this seed. It has the same meaning for psi_oomd and for oomd, as
-    far as one file can.
+    """Returns the random rules file with this seed. The file has the same meaning for psi_oomd and
+    for oomd, as far as the file format allows.
     """
     draw = random.Random(f"rules {seed}")
     return json.dumps({"rulesets": draw.choice((debian, own, own, own))(draw)})

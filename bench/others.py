@@ -1,14 +1,15 @@
 #!/usr/bin/env python3
-"""Times other programs that read scheduler events, and our programs on equally many events.
+"""Compares the speed of perf and trace-cmd with the speed of psi_oomd and psi_convert on the same
+number of scheduler events.
 
 usage: bench/others.py [--events N] [--rounds N]     (1000000 events, 3 rounds)
 
 Needs root, tracefs in /sys/kernel/tracing, and Debian's packages linux-perf and trace-cmd. The load
 is `perf bench sched pipe`: switches and wakeups of two processes that wake each other. perf records
-it once. A second run fills ring buffers, whose pages both trace-cmd and psi_convert read. psi_oomd
-reads a generated trace with as many events as perf recorded. Prints for each command its events,
-and the microseconds of processor time and of wall-clock time for each event: the least of all
-rounds. This is a benchmark, which asserts nothing.
+it once. In a second run the kernel fills ring buffers, and both trace-cmd and psi_convert read
+their pages. psi_oomd reads a generated trace with as many events as perf recorded. Prints for each
+command its number of events, and the microseconds of processor time and of wall-clock time per
+event. Each time is the shortest of all rounds. The benchmark checks no result.
 """
 from __future__ import annotations
 
@@ -33,14 +34,14 @@ from psiread.table import table_of  # noqa: E402
 
 TRACING = "/sys/kernel/tracing"
 EVENTS = ("sched/sched_switch", "sched/sched_wakeup")
-# One pass of the load's token makes two switches and two wakeups.
+# A round trip of the benchmark's token causes two switches and two wakeups.
 EVENTS_OF_A_PASS = 4
-# The most bytes that an event takes in a ring buffer.
+# The largest number of bytes that an event occupies in a ring buffer.
 EVENT_BYTES = 100
 
 
 class Reader(NamedTuple):
-    """A command that reads a recording, and the number of events in that recording."""
+    """A command that reads a recording or a trace, and the number of events that it reads."""
 
     name: str
     words: list[str]
@@ -48,27 +49,27 @@ class Reader(NamedTuple):
 
 
 def load(events: int) -> list[str]:
-    """Returns the command that causes about this number of events."""
+    """Returns the benchmark command that causes about `events` events."""
     return ["perf", "bench", "sched", "pipe", "-l", str(events // EVENTS_OF_A_PASS)]
 
 
 def must_run(words: list[str]) -> None:
-    """Runs a command. A command that fails ends the benchmark."""
+    """Runs a command. If the command fails, the benchmark ends with its message."""
     done = subprocess.run(words, capture_output=True, text=True)
     if done.returncode != 0:
         sys.exit(f"{' '.join(words)}: status {done.returncode}: {done.stderr.strip()[-300:]}")
 
 
 def lines_with(mark: bytes, words: list[str]) -> int:
-    """Returns the number of lines that a command prints and that contain `mark`."""
+    """Returns how many of the lines that a command prints contain `mark`."""
     with subprocess.Popen(words, stdout=subprocess.PIPE, stderr=subprocess.DEVNULL) as run:
         assert run.stdout is not None
         return sum(mark in line for line in run.stdout)
 
 
 def perf_readers(events: int, room: str) -> list[Reader]:
-    """Records the load with perf, and returns its readers. timehist reads all events, but prints a
-    line only for each switch.
+    """Records the benchmark with perf, and returns the perf commands that read the recording. `perf
+    sched timehist` reads all events, but prints a line only for each switch.
     """
     data = os.path.join(room, "perf.data")
     chosen = [word for name in EVENTS for word in ("-e", name.replace("/", ":"))]
@@ -91,8 +92,8 @@ def text_of(path: str) -> str:
 
 @contextlib.contextmanager
 def traced(events: int) -> Iterator[str]:
-    """Records the load in an instance of tracefs, whose buffers have room for all events on each
-    processor. Yields the folder of the instance, and removes it at the end.
+    """Creates a tracing instance whose buffers hold all events on each processor, and records the
+    benchmark in it. Yields the instance's folder, and removes the instance at the end.
     """
     folder = f"{TRACING}/instances/bench_others"
     os.mkdir(folder)
@@ -108,7 +109,7 @@ def traced(events: int) -> Iterator[str]:
 
 
 def copy_pages(source: str, path: str) -> None:
-    """Copies the pages of a processor's ring buffer."""
+    """Copies all pages of a processor's ring buffer from the file `source` to the file `path`."""
     buffer = os.open(source, os.O_RDONLY | os.O_NONBLOCK)
     try:
         with open(path, "wb") as file, contextlib.suppress(BlockingIOError):
@@ -119,7 +120,9 @@ def copy_pages(source: str, path: str) -> None:
 
 
 def pages_of(events: int, room: str) -> list[str]:
-    """Records the load into ring buffers, and returns files with the pages of each processor."""
+    """Records the benchmark into ring buffers. Returns the paths of files with the pages, one file
+    for each processor.
+    """
     paths = []
     with traced(events) as folder:
         for number in range(os.cpu_count() or 1):
@@ -129,7 +132,9 @@ def pages_of(events: int, room: str) -> list[str]:
 
 
 def write_table(room: str) -> str:
-    """Writes the table of the kernel's formats that psi_convert needs, and returns its path."""
+    """Writes the table of the kernel's event formats that psi_convert reads. Returns the table's
+    path.
+    """
     parts = [f"== header_page\n{text_of(f'{TRACING}/events/header_page')}"]
     for name in (*EVENTS, "ftrace/print"):
         parts.append(f"== {name}\n{text_of(f'{TRACING}/events/{name}/format')}")
@@ -140,7 +145,9 @@ def write_table(room: str) -> str:
 
 
 def page_readers(convert: str, events: int, room: str) -> list[Reader]:
-    """Records the load, and returns trace-cmd and psi_convert as readers of its pages."""
+    """Records the benchmark, and returns the commands of trace-cmd and psi_convert that read its
+    pages.
+    """
     pages, data, head = pages_of(events, room), os.path.join(room, "trace.dat"), f"{room}/head.dat"
     must_run(["trace-cmd", "restore", "-c", "-o", head])
     must_run(["trace-cmd", "restore", "-i", head, "-o", data, *pages])
@@ -166,7 +173,9 @@ def own_readers(program: str, events: int, room: str) -> list[Reader]:
 
 
 def least(words: list[str], rounds: int) -> Taken:
-    """Returns the least times (s) of all rounds."""
+    """Runs a command `rounds` times. Returns the shortest wall-clock time and the shortest
+    processor time (s).
+    """
     times = [once(words) for _ in range(rounds)]
     return Taken(min(it.clock for it in times), min(it.processor for it in times))
 

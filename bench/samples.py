@@ -1,6 +1,6 @@
 #!/usr/bin/env python3
-"""Measures how exact traces are that are made from samples: averages on recordings of machines, and
-kills by rules on simulated machines.
+"""Measures the accuracy of traces that are made from samples: of averages on recordings of
+machines, and of kills by rules on simulated machines.
 
 usage: bench/samples.py averages FOLDER.. [--every 2,5,15,30]
        bench/samples.py rules [--machines 30] [--seed 200] [--seconds 300] [--every 2,5,15,30]
@@ -8,11 +8,11 @@ usage: bench/samples.py averages FOLDER.. [--every 2,5,15,30]
        bench/samples.py speed [--seconds 300]
 
 averages: the differences (percentage points) between avg10 at the nearest tick and the machine's
-own readings, for the trace of events and for traces of samples, all with a lead-in of 12 minutes.
-Only pressure files count that are above 2 percent at some time. rules: the evaluations at which
-each of eleven rules fires on a trace of events at ticks of a second, and on traces of its samples;
-and the first kills. peaks: the highest avg10 of a single full stall. speed: the time for a machine
-of 57 groups, 14 of them busy. PSI_OOMD names the program.
+own readings, for a trace of events and for traces of samples, each after a warm-up of 12 minutes.
+Pressure files that never exceed 2 percent are left out. rules: the evaluations at which each of
+eleven rules fires on a trace of events at ticks of a second, and on traces of its samples; and the
+first kills. peaks: the highest avg10 of a single full stall. speed: the time for a machine of 57
+groups, 14 of them busy. PSI_OOMD names the program.
 """
 from __future__ import annotations
 
@@ -41,13 +41,13 @@ LEAD, LEAD_TEXT, LEAST = 720 * SECOND, "12min", 2.0
 FILE = re.compile(
     r"sample (\d+) (\S+) (io|memory|cpu)\nsome avg10=([\d.]+) [^\n]*\nfull avg10=([\d.]+) "
 )
-# avg10 (percent) by time (ns), group and level. The level is twice the index of the resource, plus
-# 1 for full.
+# The averages avg10 (percent), keyed by time (ns), group and level. A level is twice the index of
+# the resource, plus 1 for full.
 Averages = dict[tuple[int, str, int], float]
 
 
 def averages_of(trace: str) -> Averages:
-    """Returns avg10 at each tick of a replay of the trace."""
+    """Returns avg10 of all groups at each tick of a replay of the trace."""
     printed = run(program_path(), "replay", "--report-s=2", "--", trace).decode()
     found = {}
     for it in REPORT.finditer(printed):
@@ -59,8 +59,9 @@ def averages_of(trace: str) -> Averages:
 
 
 class Recording:
-    """The readings of a recording's pressure files: their times (ns of the recording's clock) by
-    number, and avg10 (percent) by the reading's number, group and level.
+    """The readings of a recording's pressure files. `times` has the time (ns of the recording's
+    clock) of each reading by its number, and `machine` has avg10 (percent) by reading, group and
+    level.
     """
 
     def __init__(self, folder: str) -> None:
@@ -79,8 +80,8 @@ class Recording:
             )
 
     def errors(self, replayed: Averages, start: int) -> list[float]:
-        """Returns the differences (percentage points) between the readings and the averages of a
-        replay. The replayed trace begins at `start` (ns of the recording's clock).
+        """Returns the differences (percentage points) between the machine's readings and the
+        averages of a replay. The replayed trace begins at `start` (ns of the recording's clock).
         """
         found: dict[tuple[str, int], list[tuple[float, float]]] = {}
         for (number, path, level), value in self.machine.items():
@@ -96,8 +97,8 @@ class Recording:
         return [abs(one - other) for one, other in pairs]
 
     def chosen(self, every: int) -> set[int]:
-        """Returns the numbers of the readings that are the first at or after a multiple of `every`
-        s.
+        """Returns the numbers of the readings that sample the recording each `every` s: the first
+        reading at or after each multiple of `every`.
         """
         found, due = set(), 0
         for number, at in sorted(self.times.items()):
@@ -110,9 +111,7 @@ class Recording:
 
 
 def sampled_recording(recording: Recording, every: int, room: str) -> str:
-    """Writes a trace of the readings that are chosen for the interval `every` (s). Returns its
-    path.
-    """
+    """Writes a trace from one reading each `every` s. Returns the trace's path."""
     name, lines = os.path.join(room, "samples.csv"), []
     pattern = (
         r"sample (\d+) (\S+) (\w+)\nsome (\S+) (\S+) (\S+) total=(\d+)\n"
@@ -136,7 +135,7 @@ def sampled_recording(recording: Recording, every: int, room: str) -> str:
 
 
 def averages(options: argparse.Namespace) -> None:
-    """Prints the table of averages."""
+    """Prints the table of errors of averages."""
     intervals = [int(it) for it in options.every.split(",")]
     print(f"| recording | readings | event trace | {' | '.join(f'{it} s' for it in intervals)} |")
     whole: dict[str, list[float]] = {}
@@ -171,7 +170,7 @@ def averages(options: argparse.Namespace) -> None:
     )
 
 
-# ---------------------------------------------------------------- rules
+# ---------------------------------------------------------------- kills by rules
 
 
 def simulated(seed: int, seconds: int, room: str) -> str:
@@ -185,7 +184,9 @@ def simulated(seed: int, seconds: int, room: str) -> str:
 
 
 def sampled_trace(trace: str, every: int, room: str) -> str:
-    """Writes a trace of the samples of another trace, taken each `every` s. Returns its path."""
+    """Samples a trace each `every` s, and writes a trace from these samples. Returns the new
+    trace's path.
+    """
     name, output = os.path.join(room, "samples.csv"), os.path.join(room, f"{every}.trace")
     with open(name, "w", encoding="ascii") as file:
         file.write(csv_of(program_path(), trace, every))
@@ -196,8 +197,8 @@ def sampled_trace(trace: str, every: int, room: str) -> str:
 def replayed(
     options: argparse.Namespace, intervals: list[int]
 ) -> Iterator[dict[str, dict[tuple[int, int], str]]]:
-    """Yields the kills on each simulated machine: by events at ticks of a second (`truth`) and of
-    two seconds, and by samples at each interval (s).
+    """Yields the kills on each simulated machine, by kind of replay: events with ticks of one
+    second (`truth`) and of two seconds, and samples at each interval (s).
     """
     for seed in range(options.seed, options.seed + options.machines):
         with tempfile.TemporaryDirectory() as room:
@@ -249,13 +250,13 @@ def rules_table(options: argparse.Namespace) -> None:
     )
 
 
-# ---------------------------------------------------------------- peaks
+# ---------------------------------------------------------------- highest averages of short stalls
 
 
 def peak(length: float, begin: float, every: int) -> float:
-    """Returns the highest avg10 (percent) of one full stall of `length` s that begins at `begin`
-    (s), by samples at the interval `every` (s), or by the machine's own totals if that is 0. The
-    formula is that of docs/PRESSURE.md.
+    """Returns the highest avg10 (percent) of a full stall of `length` s that begins at `begin` (s).
+    `every` is the sampling interval (s), or 0 for the machine's own totals. docs/PRESSURE.md gives
+    the formula.
     """
 
     def total(at: float) -> float:
@@ -276,8 +277,8 @@ def peak(length: float, begin: float, every: int) -> float:
 
 
 def peaks(options: argparse.Namespace) -> None:
-    """Prints the table of the highest avg10 of short stalls. It depends on when a stall begins, so
-    each cell has the lowest and the highest value.
+    """Prints a table of the highest avg10 of short stalls. The value depends on when the stall
+    begins, so each cell contains the lowest and the highest value.
     """
     intervals = [int(it) for it in options.every.split(",")]
     for length in (2, 5, 10, 20, 30, 60):
@@ -286,12 +287,12 @@ def peaks(options: argparse.Namespace) -> None:
         print(f"| {length} | {' | '.join(f'{min(it):.0f}-{max(it):.0f}' for it in found)} |")
 
 
-# ---------------------------------------------------------------- speed
+# ---------------------------------------------------------------- speed of the conversion
 
 
 def speed(options: argparse.Namespace) -> None:
-    """Prints how much faster than real time samples of a machine with 57 groups are converted, and
-    the memory for that.
+    """Prints how much faster than real time the samples of a machine with 57 groups are converted,
+    and the peak memory of the conversion.
     """
     with tempfile.TemporaryDirectory() as room:
         trace = os.path.join(room, "machine.trace")

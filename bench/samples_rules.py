@@ -29,7 +29,7 @@ def plugin(name: str, **args: str) -> dict[str, object]:
 
 
 def rules() -> dict[str, tuple[list[dict[str, object]], dict[str, object]]]:
-    """Returns eleven rules by name: the detectors and the action of each."""
+    """Returns eleven rules by name. A rule consists of detectors and an action."""
     size = plugin("kill_by_memory_size_or_growth", cgroup="*/*")
     memory, io = plugin("kill_by_pressure", cgroup="*/*", resource="memory"), plugin(
         "kill_by_pressure", cgroup="*/*", resource="io"
@@ -59,7 +59,9 @@ def rules() -> dict[str, tuple[list[dict[str, object]], dict[str, object]]]:
 
 
 def rules_file() -> str:
-    """Returns a rules file with all eleven rules, as rulesets without a delay after kills."""
+    """Returns a rules file with a ruleset for each of the eleven rules. No ruleset has a delay
+    after kills.
+    """
     found = [
         {
             "name": name, "post_action_delay": "0", "detectors": [["it", *detectors]],
@@ -71,8 +73,8 @@ def rules_file() -> str:
 
 
 def kills_of(trace: str, file: str, *words: str) -> dict[tuple[int, int], str]:
-    """Returns the victims of a replay, by ruleset and number of the evaluation. Evaluations are 5 s
-    apart.
+    """Returns the victims of a replay, keyed by the ruleset's index and the evaluation's number.
+    Evaluations are 5 s apart.
     """
     printed = run(
         program_path(), "replay", f"--rules={file}", "--report-s=0", *words, "--", trace
@@ -82,9 +84,10 @@ def kills_of(trace: str, file: str, *words: str) -> dict[tuple[int, int], str]:
 
 
 class Agreement(NamedTuple):
-    """The agreement of two traces on a rule: the number of evaluations at which the rule fires on
-    both traces, on at least one, and on both with the same victim; the number of first kills on the
-    first trace, and how many of them are within 6 s and within 20 s of the first kill on the other.
+    """How well two traces agree on a rule. `both`, `either` and `same` count the evaluations at
+    which the rule fires on both traces, on at least one, and on both with the same victim. `first`
+    counts first kills on the first trace; `near` and `far` count those within 6 s and 20 s of the
+    first kill on the other trace.
     """
 
     both: int = 0
@@ -95,8 +98,8 @@ class Agreement(NamedTuple):
     far: int = 0
 
     def plus(self, one: dict[int, str], other: dict[int, str]) -> Agreement:
-        """Returns the agreement with one more machine. `one` and `other` have its victims on the
-        two traces, by evaluation.
+        """Returns the agreement including one more machine. `one` and `other` are this machine's
+        victims on the two traces, keyed by the number of the evaluation.
         """
         both = one.keys() & other.keys()
         apart = 5 * abs(min(one) - min(other)) if one and other else None

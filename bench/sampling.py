@@ -1,5 +1,5 @@
-"""Samples a trace as a monitor would sample the files of the machine: the pressure files, as
-psi_oomd prints them at ticks of a second, and the memory of groups.
+"""Samples a trace as a monitor samples a machine: the pressure files that psi_oomd prints at ticks
+of one second, and the memory of groups.
 """
 from __future__ import annotations
 
@@ -17,8 +17,8 @@ REPORT = re.compile(
 
 
 class Sample(NamedTuple):
-    """A sample of a pressure file at a time (ns): the totals of some and full (us), and the
-    averages of both, all as psi_oomd prints them.
+    """A sample of a pressure file at a time (ns): the totals (us) and the averages of `some` and of
+    `full`, as psi_oomd prints them.
     """
 
     time: int
@@ -29,7 +29,9 @@ class Sample(NamedTuple):
     averages: tuple[str, ...]
 
     def line(self, start: int, has_averages: bool) -> str:
-        """Returns the sample as a line of CSV. `start` (ns since 1970) is the trace's start."""
+        """Returns the sample as a line of CSV. `start` is the time of day at the trace's start (ns
+        since 1970).
+        """
         time = start + self.time
         more = "," + ",".join(self.averages) if has_averages else ""
         return (
@@ -39,8 +41,8 @@ class Sample(NamedTuple):
 
 
 def samples_of(program: str, trace: str, every: int) -> Iterator[Sample]:
-    """Yields samples of all pressure files each `every` seconds, as a replay of the trace at ticks
-    of a second prints them.
+    """Replays the trace with ticks of one second. Yields samples of all pressure files, taken every
+    `every` seconds.
     """
     words = [program, "replay", "--tick-ms=1000", f"--report-s={every}", "--", trace]
     printed = subprocess.run(words, check=True, capture_output=True, text=True).stdout
@@ -51,7 +53,8 @@ def samples_of(program: str, trace: str, every: int) -> Iterator[Sample]:
 
 
 def memory_of(trace: str, every: int, start: int) -> Iterator[str]:
-    """Yields the memory samples in the trace at each multiple of `every` seconds, as lines of CSV.
+    """Yields the memory samples in the trace whose time is a multiple of `every` seconds, as lines
+    of CSV. `start` is the time of day at the trace's start (ns since 1970).
     """
     with open(trace, encoding="ascii") as file:
         for line in file:
@@ -66,8 +69,9 @@ def csv_of(
     program: str, trace: str, every: int, start: int = 1_700_000_000 * SECOND,
     has_averages: bool = False,
 ) -> str:
-    """Returns a CSV file with all samples of the trace in order of time. At time 0 each pressure
-    file has a sample of zeros. `start` (ns since 1970) is the time of day at the trace's start.
+    """Returns a CSV file with all samples of the trace in order of time. `start` is the time of day
+    at the trace's start (ns since 1970). The first sample of each pressure file is at that time,
+    and is zero.
     """
     samples = list(samples_of(program, trace, every))
     rows = [(it.time, it.line(start, has_averages)) for it in samples]

@@ -1,14 +1,15 @@
 #!/usr/bin/env python3
-"""Shows how the tables of rules in bench/samples.md depend on the height of stalls and on the
-growth of memory. It runs no program.
+"""Computes how the tables of rules in bench/samples.md depend on the simulated stalls' pressure and
+on the growth of memory, without running psi_oomd.
 
 usage: bench/sensitivity.py
 
-heights: 210 groups of 300 s with stalls of constant pressure that last 3 to 80 s. Each cell is the
-percentage of evaluations at which a rule holds by totals each second and by samples, of those at
-which it holds by either. growth: the memory of the simulated machines of bench/machines.py. Each
-cell is the percentage of evaluations during thrashing at which kill_by_memory_size_or_growth, as it
-is by default, chooses the same group by memory each second and by samples.
+heights: 210 groups have stalls of constant pressure, each 3 to 80 s long, within 300 s. A rule is
+evaluated both with totals of each second and with samples. Each cell compares the two. It is the
+number of evaluations at which the rule holds with both, as a percentage of the evaluations at which
+it holds with at least one. growth: the memory of the simulated machines of bench/machines.py. Each
+cell is the percentage of evaluations during thrashing at which kill_by_memory_size_or_growth with
+its default arguments chooses the same group from samples as from the memory at each second.
 """
 from __future__ import annotations
 
@@ -21,10 +22,10 @@ from machines import GB, SECOND, Service, small_tree
 LENGTH, EVALUATED = 300, 5
 INTERVALS = (5, 15, 30)
 SEEDS = range(200, 230)
-# Thresholds (share of time) and durations (s).
+# Thresholds (as a share of time) and durations (s) of the compared rules.
 RULES = ((0.1, 10), (0.4, 10), (0.6, 10), (0.6, 30))
 HEIGHTS = ((0.2, 0.8), (0.4, 1.0), (0.9, 1.0))
-# The growth of memory (as a share) in a second of thrashing.
+# The growth of a service's memory (as a share) in a second of thrashing.
 GROWTHS = (0.04, 0.02, 0.01)
 PAST, LEAST_GROWTH = 4, 1.25
 
@@ -43,16 +44,18 @@ def sampled(values: Sequence[float], every: int) -> Callable[[int], float]:
 
 
 def percent(parts: Iterable[tuple[int, int]]) -> str:
-    """Returns the sum of the first numbers in percent of the sum of the second numbers, as text."""
+    """Returns the sum of the first numbers as a percentage of the sum of the second numbers."""
     both, either = (sum(it) for it in zip(*parts))
     return f"{100 * both / max(1, either):.1f} %"
 
 
-# ---------------------------------------------------------------- heights
+# ---------------------------------------------------------------- pressure of stalls
 
 
 def totals_of(rng: random.Random, low: float, high: float) -> list[float]:
-    """Returns the stalled time (s) at each second of a group with stalls of these heights."""
+    """Returns the total stalled time (s) of a group at each second. The pressure of each stall is a
+    random share between `low` and `high`.
+    """
     shares, at = [0.0] * LENGTH, rng.randrange(5, 60)
     while at < LENGTH:
         end, height = at + rng.randrange(3, 80), rng.uniform(low, high)
@@ -65,8 +68,8 @@ def totals_of(rng: random.Random, low: float, high: float) -> list[float]:
 
 
 def averages(total: Callable[[int], float], tick: int) -> list[float]:
-    """Returns avg10 (as a share) at each tick. `total` returns the stalled time (s) up to a time
-    (s), and `tick` is the length of a tick (s).
+    """Returns avg10 (as a share) at each tick. `total(t)` is the time (s) stalled until `t` (s),
+    and `tick` is the length of a tick (s).
     """
     factor, found = math.exp(-tick / 10), [0.0]
     for at in range(tick, LENGTH + 1, tick):
@@ -76,7 +79,7 @@ def averages(total: Callable[[int], float], tick: int) -> list[float]:
 
 def holds(found: Sequence[float], tick: int, threshold: float, duration: int) -> set[int]:
     """Returns the times (s) of the evaluations at which an average has been above `threshold` for
-    `duration` s. `found` has the average at each tick.
+    at least `duration` s. `found` has the average at each tick.
     """
     times, since = set(), None
     for at in range(EVALUATED, LENGTH + 1, EVALUATED):
@@ -90,7 +93,7 @@ def holds(found: Sequence[float], tick: int, threshold: float, duration: int) ->
 
 
 def heights() -> None:
-    """Prints the table of heights."""
+    """Prints the table of stalls by their pressure."""
     columns = ("events at 2 s", *(f"{it} s" for it in INTERVALS))
     print(f"| stalls of | rule | {' | '.join(columns)} |")
     for low, high in HEIGHTS:
@@ -116,12 +119,12 @@ def heights() -> None:
             )
 
 
-# ---------------------------------------------------------------- growth
+# ---------------------------------------------------------------- growth of memory
 
 
 def memories(seed: int, growth: float) -> tuple[dict[str, list[float]], list[bool]]:
-    """Returns the memory (bytes) of each service of a simulated machine at each second, and for
-    each second whether some service thrashes.
+    """Returns the memory (bytes) of each service of a simulated machine at each second, and a list
+    that says for each second whether a service thrashes.
     """
     paths = [it for it in small_tree(7) if it.count("/") == 2]
     services = [Service(it, random.Random(f"{seed} {it}"), LENGTH, True) for it in paths]
@@ -138,9 +141,10 @@ def memories(seed: int, growth: float) -> tuple[dict[str, list[float]], list[boo
 
 
 def victim(sizes: dict[str, float], past: dict[str, list[float]]) -> str:
-    """Returns the victim of kill_by_memory_size_or_growth: the largest group if it has half of all
-    memory; otherwise the group of the two largest that grew most, if it grew enough; otherwise the
-    largest group. `past` has the sizes of the previous evaluations.
+    """Returns the victim of kill_by_memory_size_or_growth. If the largest group has at least half
+    of all memory, it is the victim. If not, the candidate is the one of the two largest groups that
+    grew more. It is the victim if it grew by at least the factor LEAST_GROWTH, and the largest
+    group is the victim if not. `past` has the sizes at previous evaluations.
     """
     order = sorted(sizes, key=lambda it: (-sizes[it], it))
     if 2 * sizes[order[0]] >= sum(sizes.values()):
@@ -153,7 +157,7 @@ def victim(sizes: dict[str, float], past: dict[str, list[float]]) -> str:
 
 
 def victims(found: dict[str, list[float]], every: int) -> list[str]:
-    """Returns the victim at each evaluation, if the memory of groups is sampled each `every` s."""
+    """Returns the victim at each evaluation if memory is sampled each `every` s."""
     past: dict[str, list[float]] = {it: [] for it in found}
     chosen = []
     for at in range(EVALUATED, LENGTH, EVALUATED):
@@ -164,7 +168,7 @@ def victims(found: dict[str, list[float]], every: int) -> list[str]:
 
 
 def growths() -> None:
-    """Prints the table of growths."""
+    """Prints the table of memory growth."""
     print(f"| memory grows in a second by | {' | '.join(f'{it} s' for it in INTERVALS)} |")
     for growth in GROWTHS:
         parts: dict[int, list[tuple[int, int]]] = {every: [] for every in INTERVALS}

@@ -1,6 +1,6 @@
 #!/usr/bin/env python3
-"""Counts the lines of the definitions that a reader must believe, of code, contracts, proofs and
-tests, and prints a table.
+"""Prints a table with the numbers of lines of trusted definitions, code, contracts, proofs and
+tests.
 
 usage: bench/sizes.py [--unreached]
 
@@ -22,6 +22,8 @@ import believed
 from believed import CRATES, TOP
 
 CONTRACT = re.compile(r"(requires|ensures|invariant|measure|assert|ghost)\b")
+# Crates that only tests use, although their names don't end with `_tests`.
+TEST_CRATES = ("outside_fakes", "test_support")
 BELIEVED_TITLE = "## The files that have to be believed"
 
 
@@ -33,13 +35,14 @@ def counted(lines: Iterable[str], comment: str) -> Iterator[str]:
 
 
 def definition_lines(path: pathlib.Path) -> int:
-    """Returns the number of lines of an .antt file that define something."""
+    """Returns the number of lines of an .antt file without blank lines, comments and `use` lines.
+    """
     lines = path.read_text(encoding="utf-8").splitlines()
     return sum(1 for line in counted(lines, "--") if not line.startswith(("use ", "pub use ")))
 
 
 def rust_lines(path: pathlib.Path) -> tuple[int, int]:
-    """Returns the numbers of lines of code and of contracts in an .rt file."""
+    """Returns the number of lines of code and the number of lines of contracts in an .rt file."""
     code = contracts = depth = 0
     for line in counted(path.read_text(encoding="utf-8").splitlines(), "//"):
         if depth == 0 and not CONTRACT.match(line):
@@ -51,16 +54,16 @@ def rust_lines(path: pathlib.Path) -> tuple[int, int]:
 
 
 def believed_section() -> str:
-    """Returns the section of docs/ARCHITECTURE.md on the files that have to be believed."""
+    """Returns the section of docs/ARCHITECTURE.md about the trusted files."""
     text = (TOP / "docs" / "ARCHITECTURE.md").read_text(encoding="utf-8")
     return text[text.index(BELIEVED_TITLE) :].partition("\n## ")[0]
 
 
 def believed_files() -> tuple[list[pathlib.Path], list[pathlib.Path]]:
-    """Returns the files of definitions and the files of types that have to be believed, according
-    to docs/ARCHITECTURE.md.
+    """Returns the trusted files of definitions and the trusted files of types, according to
+    docs/ARCHITECTURE.md.
 
-    A cell of the table's first column names a library, and files of its `specs`; a cell without a
+    A cell of its table's first column has a library and files of its `specs`. A cell without a
     library continues the row above.
     """
     section = believed_section()
@@ -77,15 +80,18 @@ def believed_files() -> tuple[list[pathlib.Path], list[pathlib.Path]]:
 
 
 def is_listed(item: believed.Item, types: list[pathlib.Path]) -> bool:
-    """Whether the list has a type: by its file, by its name if contracts see only its `Model`, or
-    because it is declared in the file of a top call or trait.
+    """Returns whether the list of trusted files covers a type: by the type's file, by its name if
+    contracts see only its `Model`, or because the type is in the file of a listed function or
+    trait.
     """
     by_name = believed.has_model(item) and f"`{item.name}`" in believed_section()
     return by_name or item.path in (*types, *(CRATES / name for name, _ in believed.ROOTS))
 
 
 def list_faults() -> Iterator[str]:
-    """Yields a text for each file that the list lacks, and for each file that it has needlessly."""
+    """Yields a message for each file that is missing from the list of trusted files or that is
+    listed needlessly.
+    """
     definitions, types = believed_files()
     reached: dict[pathlib.Path, list[str]] = {}
     for item in sorted(believed.believed()):
@@ -107,19 +113,24 @@ def list_faults() -> Iterator[str]:
 
 
 def sum_of(pairs: Iterable[tuple[int, int]]) -> tuple[int, int]:
-    """Returns the sums of the first numbers and of the second numbers."""
+    """Returns the sum of the first components and the sum of the second components."""
     first = second = 0
     for one, other in pairs:
         first, second = first + one, second + other
     return first, second
 
 
+def is_of_tests(crate: str) -> bool:
+    """Returns whether only tests use the crate with this name."""
+    return crate.endswith("_tests") or crate in TEST_CRATES
+
+
 def sizes() -> Iterator[tuple[str, int]]:
-    """Yields the name and the value of each size."""
+    """Yields the name and the value of each row of the table."""
     definitions, types = believed_files()
     specs, proofs = (sorted(CRATES.glob(f"*/{kind}/**/*.antt")) for kind in ("specs", "proofs"))
     rust = sorted(CRATES.glob("*/src/**/*.rt"))
-    tests = [path for path in rust if path.relative_to(CRATES).parts[0].endswith("_tests")]
+    tests = [path for path in rust if is_of_tests(path.relative_to(CRATES).parts[0])]
     code, contracts = sum_of(rust_lines(path) for path in rust if path not in tests)
     own = [path for path in definitions if path.is_relative_to(CRATES)]
     yield "lines of definitions to believe", sum(map(definition_lines, own))
@@ -138,7 +149,8 @@ def sizes() -> Iterator[tuple[str, int]]:
 
 
 def cases() -> Iterator[str]:
-    """Yields the cases of tests/run: the rows of a folder with rows, otherwise the folder's name.
+    """Yields the cases of tests/run: each row of a folder with a file `rows`, and each other
+    folder.
     """
     for folder in (TOP / "tests" / "run" / "cases").iterdir():
         rows = folder / "rows"
@@ -148,8 +160,8 @@ def cases() -> Iterator[str]:
 
 
 def main(words: list[str]) -> int:
-    """Prints the sizes, or the definitions on which no contract rests. Returns 1 if the list in
-    docs/ARCHITECTURE.md is wrong.
+    """Prints the table of sizes, or with `--unreached` the definitions on which no contract
+    depends. Returns 1 if the list in docs/ARCHITECTURE.md is wrong.
     """
     faults = [
         f"docs/ARCHITECTURE.md, of the files that have to be believed: {fault}"

@@ -1,9 +1,11 @@
 #!/usr/bin/env python3
-"""Prints examples/runaway.trace: five minutes of a machine with two processors, on which an import of data outgrows the memory.
+"""Prints examples/runaway.trace: five minutes of a machine with two processors, on which an import
+of data outgrows the memory.
 
-A web server answers on processor 0. On processor 1 an index is kept, and from 60 s on an import runs that needs ever more
-memory: more and more of its time goes into getting pages back, and the index loses its own pages and waits for the disk. At
-220 s somebody ends the import by hand, its group is removed, and the pressure falls.
+A web server runs on processor 0. On processor 1 a task maintains an index. From 60 s on an import
+runs there and needs more and more memory. It spends an increasing share of its time on reclaiming
+pages, and the index loses its own pages and waits for the disk. At 220 s an administrator ends the
+import, its group is removed, and the pressure falls.
 """
 from __future__ import annotations
 
@@ -17,7 +19,9 @@ SECOND = 1000 * MS
 GROUPS = ("/web", "/batch", "/batch/import", "/batch/index")
 BEGIN, MOST, STOP, END = (second * SECOND for second in (60, 150, 220, 300))
 
-# What a task does: steps of a kind and a length (ns), each asked for with the moment (ns). `stall` and `unstall` take no time.
+# A step of a task: its kind and its length (ns). The kinds `stall` and `unstall` take no time. A
+# plan is a generator of a task's steps. Before each step after the first, it is sent the time (ns)
+# at which the step begins.
 Step = tuple[str, int]
 Plan = Generator[Step, int, None]
 
@@ -25,17 +29,17 @@ draw = random.Random(5)
 
 
 def about(ms: float) -> int:
-    """A time (ns) near so many ms."""
+    """Returns a random time (ns) within 30 percent of `ms` milliseconds."""
     return max(1, round(ms * (0.7 + 0.6 * draw.random()))) * MS
 
 
 def need(now: int) -> float:
-    """How far the import has outgrown the memory at a moment (ns), from 0 to 1."""
+    """Returns how short memory is because of the import at the time `now` (ns), from 0 to 1."""
     return min(1, max(0, (now - BEGIN) / (MOST - BEGIN))) if now < STOP else 0
 
 
 def web() -> Plan:
-    """A server: it waits for the disk the longer the less memory is left."""
+    """The plan of a server. It waits for the disk longer as memory gets short."""
     while True:
         now = yield "sleep", about(1500)
         now = yield "run", about(250)
@@ -44,7 +48,9 @@ def web() -> Plan:
 
 
 def index() -> Plan:
-    """A task that keeps an index, of which ever less is in memory."""
+    """The plan of a task that maintains an index. As memory gets short, it loses pages of the index
+    and waits for the disk.
+    """
     while True:
         now = yield "sleep", about(1200)
         yield "run", about(300)
@@ -57,7 +63,9 @@ def index() -> Plan:
 
 
 def loader() -> Plan:
-    """The import: it sleeps until it begins, needs more and more, and is ended by hand."""
+    """The plan of the import. It begins at BEGIN, needs more and more memory, and is ended at STOP
+    (ns).
+    """
     now = yield "sleep", BEGIN
     while now < STOP:
         now = yield "run", about(500 - 250 * need(now))
@@ -71,7 +79,7 @@ def loader() -> Plan:
 
 
 class Machine:
-    """Two processors, on which a task runs until it waits, sleeps or exits."""
+    """Two processors. Each runs a task until the task waits, sleeps or exits."""
 
     def __init__(self) -> None:
         self.running: list[int | None] = [None, None]
@@ -82,12 +90,14 @@ class Machine:
         self.first: dict[int, Step] = {}
         self.groups = set(GROUPS)
 
-    def at(self, moment: int, call: Callable[..., None], *given: int) -> None:
-        """Calls this at a moment (ns), with the moment first."""
-        heapq.heappush(self.due, (moment, next(self.order), call, given))
+    def at(self, time_ns: int, call: Callable[..., None], *arguments: int) -> None:
+        """Schedules a call of `call` at `time_ns`. The arguments of the call are `time_ns` and
+        `arguments`.
+        """
+        heapq.heappush(self.due, (time_ns, next(self.order), call, arguments))
 
     def fork(self, pid: int, group: str, cpu: int, plan: Plan) -> None:
-        """Makes a task at 0, which runs at once where the processor is free."""
+        """Creates a task at time 0. It runs at once if its processor is idle."""
         print(f"0 fork {pid} {group} {cpu}")
         self.plans[pid] = cpu, plan
         self.first[pid] = next(plan)
@@ -96,14 +106,16 @@ class Machine:
             self.switch(0, cpu, "idle")
 
     def switch(self, now: int, cpu: int, how: str) -> None:
-        """The running task leaves, and the next that is ready runs, if one is."""
+        """Switches a processor to its next ready task, or to the idle task if none is ready."""
         pid = self.running[cpu] = self.ready[cpu].pop(0) if self.ready[cpu] else None
         print(f"{now} switch {cpu} {pid or 0} {how}")
         if pid:
             self.go_on(now, pid, self.first.pop(pid, None))
 
     def go_on(self, now: int, pid: int, first: Step | None = None) -> None:
-        """Takes the steps of the running task up to one that takes time: from this one on, or from its plan's next."""
+        """Executes the running task's steps, from `first` or the next step of its plan, up to a
+        step that takes time.
+        """
         cpu, plan = self.plans[pid]
         kind, length = first or plan.send(now)
         while kind in ("stall", "unstall"):
@@ -120,7 +132,7 @@ class Machine:
             self.at(now + length, self.wake, pid)
 
     def wake(self, now: int, pid: int) -> None:
-        """The task is ready where it was, and runs at once where that processor is free."""
+        """Wakes a task on its processor. It runs at once if the processor is idle."""
         cpu, _ = self.plans[pid]
         print(f"{now} wake {pid} {cpu}")
         self.ready[cpu].append(pid)
@@ -128,7 +140,9 @@ class Machine:
             self.switch(now, cpu, "idle")
 
     def sample(self, now: int) -> None:
-        """Memory in bytes, and pages scanned: the import's grow, and the others give way."""
+        """Prints a sample of each group: its memory (bytes) and its number of scanned pages. The
+        import grows while it runs, and the other groups shrink.
+        """
         grown = need(now)
         scanned = round(max(0, min(now, STOP) - BEGIN) / SECOND) * 4000
         sizes = (
@@ -142,15 +156,15 @@ class Machine:
         self.at(now + 10 * SECOND, self.sample)
 
     def run(self) -> None:
-        """Does what is due, in the order of time, up to the end."""
+        """Executes all scheduled calls before END (ns), in the order of time."""
         self.at(0, self.sample)
         while self.due[0][0] < END:
-            now, _, call, given = heapq.heappop(self.due)
-            call(now, *given)
+            now, _, call, arguments = heapq.heappop(self.due)
+            call(now, *arguments)
 
 
 def main() -> None:
-    """Prints the trace."""
+    """Prints the whole trace."""
     print("psitrace 1 cpus=2")
     print(f"0 host {2 << 30} 0 0")
     for group in GROUPS:

@@ -1,4 +1,4 @@
-"""The harness of the tests: how a check fails, and how checks are run and reported.
+"""The harness of the tests: it runs checks and reports their results.
 
 A check is a function whose name begins with `check_`; it raises Wrong if a result differs from the
 expected one. `run_checks` runs several checks at the same time, each in a process and in an empty
@@ -31,30 +31,32 @@ from typing import IO, NamedTuple
 from shared.difference import difference
 from shared.program import TOP, USED, program_of
 
-# The time limit (s) of a check, far longer than any check needs; it is multiplied by the number of
-# processes per processor. A check that exceeds its limit is interrupted, and again after each
+# The time limit (s) of a check. It is far longer than any check needs, and is multiplied by the
+# number of processes per processor. A check that exceeds its limit is interrupted, and again each
 # AGAIN_S seconds.
 LIMIT_S, AGAIN_S = 300.0, 10.0
-# The largest number of characters of a failure that are printed: a longer text is cut in the
+# The largest number of characters that are printed of a failure. A longer text is cut in the
 # middle.
 MOST_SHOWN = 20_000
 
-# The folder of Python's own modules; their frames are left out of a printed stack.
+# The folder of Python's standard modules. Frames of these modules are omitted when a stack is
+# printed.
 PYTHON = os.path.dirname(os.__file__) + os.sep
 
 Check = Callable[..., object]
-# A function that calls a check; the text is the path of the check's empty folder.
+# A function that runs a check. Its argument is the path of the check's empty folder.
 Call = Callable[[Check, str], object]
 Source = ModuleType | Mapping[str, object]
 
 
 class Wrong(Exception):
-    """Raised by a check that fails; the text says how the result differs from the expected one."""
+    """Raised by a check that fails. The text says how the result differs from the expected one."""
 
 
 class Overdue(BaseException):
-    """Raised in a check that exceeds its time limit, with the commands that the check had started
-    and that still run. It is no Exception, so that no `except Exception` in a check catches it.
+    """Raised in a check that exceeds its time limit. The text has the commands that the check
+    started and that still run. It isn't an Exception, so an `except Exception` in a check doesn't
+    catch it.
     """
 
     def __init__(self, seconds: float, commands: Sequence[str]) -> None:
@@ -81,8 +83,8 @@ def must_have_none(faults: Iterable[str]) -> None:
 
 
 class Outcome(NamedTuple):
-    """The result of a check: its name, its duration in seconds, what is wrong (or ""), and what it
-    printed.
+    """The result of a check: its name, its duration (s), what is wrong ("" if nothing is), and what
+    it printed.
     """
 
     name: str
@@ -101,7 +103,7 @@ def cut(text: str) -> str:
 
 @contextlib.contextmanager
 def captured(file: IO[bytes]) -> Iterator[None]:
-    """Redirects the output of this process and of its children into the file."""
+    """Redirects the standard output of this process and of its children into the file."""
     sys.stdout.flush()
     output = os.dup(1)
     os.dup2(file.fileno(), 1)
@@ -128,7 +130,7 @@ def children() -> dict[int, str]:
 
 
 def allowed_seconds() -> float:
-    """Returns how long (s) a check may take at the machine's load."""
+    """Returns the time limit (s) of a check, which depends on the machine's load."""
     return LIMIT_S * max(1.0, max(os.getloadavg()) / len(os.sched_getaffinity(0)))
 
 
@@ -151,8 +153,8 @@ def limited() -> Iterator[None]:
 
 
 def overdue_fault(overdue: Overdue) -> str:
-    """Returns the report of a check that exceeded its time limit: its stack at that time, and the
-    commands that it had started and that still ran. Kills these commands.
+    """Kills the commands of a check that exceeded its time limit. Returns a report with the check's
+    stack and these commands.
     """
     for child in children():
         with contextlib.suppress(ProcessLookupError):
@@ -170,8 +172,8 @@ def overdue_fault(overdue: Overdue) -> str:
 
 
 def outcome_of(name: str, check: Check, call: Call) -> Outcome:
-    """Runs a check in a new folder and returns its outcome. Any exception other than Wrong is also
-    a failure; its report says at which line it was raised.
+    """Runs a check in a new folder and returns its outcome. An unexpected exception counts as a
+    failure too; then the report says at which line it was raised.
     """
     fault, began = "", time.monotonic()
     with tempfile.TemporaryDirectory() as folder, tempfile.TemporaryFile() as printed:
@@ -201,7 +203,9 @@ def outcome_of_named(name: str) -> Outcome:
 
 
 def outcomes(checks: Mapping[str, Check], call: Call, jobs: int) -> Iterator[Outcome]:
-    """Runs the checks, `jobs` at a time, and yields the outcome of each check when it ends."""
+    """Runs the checks, at most `jobs` at a time. Yields the outcome of each check as soon as it
+    ends.
+    """
     if jobs == 1 or len(checks) == 1:
         yield from (outcome_of(name, check, call) for name, check in checks.items())
         return
@@ -214,13 +218,13 @@ def outcomes(checks: Mapping[str, Check], call: Call, jobs: int) -> Iterator[Out
 
 
 def test_name() -> str:
-    """Returns the name of the running test, which is the name of its folder."""
+    """Returns the name of the running test: the name of its folder."""
     return os.path.basename(os.path.dirname(os.path.abspath(sys.argv[0])))
 
 
 def repetition(name: str) -> str:
-    """Returns the command that repeats a check of this test, with the variables that name the
-    programs unless the launcher built them.
+    """Returns the command that repeats a check of this test. Variables that name programs are
+    included, except for programs that the launcher built.
     """
     named = [
         f"{variable}={shlex.quote(path)}"
@@ -231,7 +235,9 @@ def repetition(name: str) -> str:
 
 
 def print_outcome(outcome: Outcome) -> None:
-    """Prints how a check ended; if it failed, also what differs and how to repeat it."""
+    """Prints the outcome of a check. After a failure, prints the difference and the command that
+    repeats the check.
+    """
     print(
         f"{'FAILED' if outcome.fault else 'ok':6} {outcome.seconds:6.1f} s  {outcome.name}",
         flush=True,
@@ -254,8 +260,8 @@ def options_of(words: Sequence[str]) -> tuple[int, list[str]]:
 
 
 def chosen_of(checks: Mapping[str, Check], names: Sequence[str]) -> dict[str, Check]:
-    """Returns the named checks, or all checks if no name is given. The part of a check's name up to
-    a colon selects all checks that begin with it. Exits with status 2 if a name matches no check.
+    """Returns the named checks, or all checks if `names` is empty. A name also selects all checks
+    whose names begin with it and a colon. Exits with status 2 if a name matches no check.
     """
     chosen: dict[str, Check] = {}
     for name in names:
@@ -272,10 +278,11 @@ def chosen_of(checks: Mapping[str, Check], names: Sequence[str]) -> dict[str, Ch
 
 
 def run_checks(checks: Mapping[str, Check], call: Call, words: Sequence[str]) -> int:
-    """Runs the checks, or only those that the words name, and returns the exit status: 0 if all
-    passed, 1 if one failed or if there is none.
+    """Runs all checks, or only the named ones. Returns the exit status: 0 if all passed, or 1 if
+    one failed or no check exists.
     """
-    # A shell's background jobs ignore interrupts, and tools started by a check would inherit that.
+    # The background jobs of a shell ignore interrupts. Tools that a check starts would inherit
+    # this.
     signal.signal(signal.SIGINT, signal.default_int_handler)
     jobs, names = options_of(words)
     chosen = chosen_of(checks, names)
@@ -291,7 +298,7 @@ def run_checks(checks: Mapping[str, Check], call: Call, words: Sequence[str]) ->
 
 
 def checks_of(*sources: Source) -> dict[str, Check]:
-    """Returns the functions `check_NAME` of modules or dictionaries, by NAME."""
+    """Returns all functions `check_NAME` of modules or dictionaries, by NAME."""
     found: dict[str, Check] = {}
     for source in sources:
         names = source if isinstance(source, Mapping) else vars(source)
@@ -303,14 +310,15 @@ def checks_of(*sources: Source) -> dict[str, Check]:
 
 
 def run_on_program(*sources: Source) -> int:
-    """Runs all checks of the sources, or only the named ones; each check gets the path of psi_oomd.
+    """Runs all checks in these modules or dictionaries, or only the named ones. Each check gets the
+    path of psi_oomd.
     """
     program, words = program_of(sys.argv[1:])
     return run_checks(checks_of(*sources), lambda check, _: check(program), words)
 
 
 def run_in_folders(*sources: Source) -> int:
-    """Runs all checks of the sources, or only the named ones; each gets the path of an empty
-    folder.
+    """Runs all checks in these modules or dictionaries, or only the named ones. Each check gets the
+    path of an empty folder.
     """
     return run_checks(checks_of(*sources), lambda check, folder: check(folder), sys.argv[1:])

@@ -1,3 +1,3 @@
-"""The checks of tests/accuracy: how closely the trace of a recording agrees with the recorded
-machine, and whether guesses are reported.
+"""Checks how closely a recording's trace agrees with the recorded machine, and whether the
+converter reports what it had to guess.
 """

@@ -1,5 +1,5 @@
-"""Checks of lead-ins (warm-up periods before a recording): the shares of their generated tasks, and
-the averages at the recording's start.
+"""Checks of lead-ins, the warm-up periods that are generated before a recording: the generated
+tasks' shares of time, and the averages at the recording's start.
 """
 from __future__ import annotations
 
@@ -19,15 +19,15 @@ from psiworld.groups import Groups  # noqa: E402
 from psiworld.world import World  # noqa: E402
 
 LEAD = 720
-# How far averages may be off at the recording's start (percentage points), by period (s). avg10
-# changes by that much within a tick, and the machine's readings and the replay's reports are at
-# different times in the tick.
+# The largest allowed error of an average at the recording's start (percentage points), by the
+# average's period (s). Averages change by that much within a tick, and the machine's readings and
+# the replay's reports are at different times in the tick.
 NEAR = {10: 5.0, 60: 2.0, 300: 0.6}
 
 
 def check_stretches(_: str) -> None:
-    """Pressures between 0 and 100 % are found with which averages by the kernel's factors reach the
-    wanted averages.
+    """The generator finds pressures from 0 to 100 % that lead to the wanted averages, if averages
+    are computed with the kernel's factors.
     """
     for wanted in ((12.5, 30.0, 22.2), (50.0, 20.0, 10.0), (5.0, 5.0, 5.0), (0.0, 0.0, 0.0)):
         stretches = stretches_of(wanted, LEAD // 2)
@@ -43,8 +43,8 @@ def check_stretches(_: str) -> None:
 
 
 def check_what_a_stage_shows(_: str) -> None:
-    """The generated tasks of a group have the wanted shares of time on their processor: waits for
-    IO, stalls and waits for the processor, some and full, alone and combined.
+    """A group's generated tasks stall for the wanted shares of time. The stalls are for IO, for
+    memory and for the processor, some and full, alone and combined.
     """
     for shares in (
         Shares(0, 0, 0, 0, 0, 0), Shares(40, 10, 0, 0, 0, 0), Shares(30, 30, 0, 0, 20, 5),
@@ -68,7 +68,8 @@ def check_what_a_stage_shows(_: str) -> None:
 
 
 def check_groups_above(_: str) -> None:
-    """A parent group has its own shares, whether lower or higher than its children's."""
+    """A parent group has its own pressure, which may be lower or higher than that of its children.
+    """
     flat = {key: (30.0, 30.0, 30.0) for key in (("io", "some"), ("io", "full"))}
     for above in (10.0, 29.0, 45.0):
         world = World(2, Groups())
@@ -100,8 +101,8 @@ def printed_averages(program: str, trace: str) -> dict[tuple[str, str, str], tup
 
 
 def check_how_recordings_begin(program: str) -> None:
-    """The averages at the recording's start are those of the machine's pressure files at that time,
-    instead of 0. The recording's totals don't change, and the summary says when the recording
+    """With a lead-in, the averages at the recording's start are those of the machine's pressure
+    files instead of 0. The recording's totals don't change, and the summary says when the recording
     begins.
     """
     for name in ("threads", "mem-2"):
@@ -136,8 +137,8 @@ def check_how_recordings_begin(program: str) -> None:
 
 
 def check_words_of_lead_ins(_: str) -> None:
-    """Invalid lengths of a lead-in are rejected. With `--groups=0`, a recording still begins after
-    its lead-in.
+    """Invalid lengths of a lead-in are rejected. A recording begins after its lead-in even with
+    `--groups=0`.
     """
     with recording("exec-2") as folder:
         for word in ("4min", "61min", "721", "12h", "-1", "0"):

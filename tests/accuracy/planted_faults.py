@@ -1,5 +1,5 @@
 """Checks that recordings agree with their machines at the kernel's own sampling times, and that
-faults in their conversion are found there: the one number that is fitted per group hides none.
+this comparison detects faults in the conversion, although one number is fitted for each group.
 """
 from __future__ import annotations
 
@@ -10,16 +10,16 @@ from harness import must, must_be
 from shared.stored import PAGE, change, compared, converted, must_agree, recording
 
 HOUR = 3600 * 10**9
-# How far wakeups precede their events (us). On this kernel in this emulator, psi counts 99 of 100
-# wakeups up to 132 us before their events; the median is 60 us. The option states it for recordings
-# that don't contain the lag.
+# The option for recordings that don't contain the lag: the time (us) from psi's count of a wakeup
+# to the wakeup's event. On this kernel in this emulator the median is 60 us, and the 99th
+# percentile is 132 us.
 LAG = ("--lag-us", "60")
 WORDS = {"mem-2": LAG, "threads": LAG, "exec-2": (*LAG, "--least-s", "0.1")}
 
 
 def check_each_recording(program: str) -> None:
-    """Each recording agrees with its machine: `threads` at the recorded sampling times, the others
-    at fitted sampling times.
+    """For each recording, the replayed totals match the totals that the machine reported. They are
+    compared at the recorded sampling times for `threads`, and at fitted times for the others.
     """
     for name in ("mix-2", "mem-2", "cg-2", "exec-2", "threads"):
         with recording(name) as folder:
@@ -32,8 +32,8 @@ def check_fitted_moments(program: str) -> None:
     """
     with recording("threads") as folder:
         trace = converted(folder).output
-        told = compared(program, folder, trace).output.decode()
-        must("as the recording says" in told and "phase" not in told, told)
+        output = compared(program, folder, trace).output.decode()
+        must("as the recording says" in output and "phase" not in output, output)
         change(folder, "meta", lambda it: it.replace(b"/pav\n", b"/not_pav\n"))
         fitted = compared(program, folder, trace, *LAG)
         must_be(f"the status: {fitted.output.decode()}", fitted.status, 0)
@@ -59,7 +59,9 @@ def check_causes_that_are_known(program: str) -> None:
 
 
 def marked(program: str, folder: str, trace: bytes, *words: str) -> str:
-    """Returns the rows of files with totals beyond their limits; there must be some."""
+    """Returns the table rows of files whose totals are beyond their limits. Fails if there are
+    none.
+    """
     done = compared(program, folder, trace, *words)
     must_be(f"the status: {done.output.decode()}", done.status, 1)
     return "\n".join(
@@ -68,7 +70,8 @@ def marked(program: str, folder: str, trace: bytes, *words: str) -> str:
 
 
 def check_waits_by_state(program: str) -> None:
-    """If every sleep in state D counts as a wait for IO, the total of IO is reported as too high.
+    """If every sleep in state D counts as a wait for IO, the comparison reports that the total of
+    IO is too high.
     """
     with recording("mix-2") as folder:
         found = marked(program, folder, converted(folder, "--iowait", "D").output)
@@ -76,7 +79,7 @@ def check_waits_by_state(program: str) -> None:
 
 
 def later(data: bytes) -> bytes:
-    """Returns pages of a ring buffer with all events an hour later."""
+    """Returns pages of a ring buffer in which all events are an hour later."""
     after = bytearray(data)
     for at in range(0, len(data), PAGE):
         struct.pack_into("<Q", after, at, struct.unpack_from("<Q", after, at)[0] + HOUR)
@@ -84,8 +87,8 @@ def later(data: bytes) -> bytes:
 
 
 def check_a_processor_that_is_late(program: str) -> None:
-    """A processor whose events are an hour late is found, with recorded and with fitted sampling
-    times.
+    """If the events of a processor are an hour late, the comparison detects that, with recorded and
+    with fitted sampling times.
     """
     for name in ("mix-2", "threads"):
         with recording(name) as folder:

@@ -1,6 +1,4 @@
-"""Checks of single threads that move between groups, and of processes that move with all their
-threads.
-"""
+"""Checks of moves between groups: of single threads, and of processes with all their threads."""
 from __future__ import annotations
 
 import re
@@ -10,8 +8,8 @@ from shared.stored import (
     accepted, change, compared, converted, digest_of, digests, hide, recording, stored,
 )
 
-# The recording's groups whose tasks are threads of one process; and the message that psitrace
-# prints if the probe for such moves is missing.
+# The parent of the groups that contain single threads of one process, and psitrace's message if the
+# recording lacks the probe for moves of single threads.
 THREADED = "/thr"
 GUESSED = "psitrace: mended: first thread of a process moved, the others taken to go with it: "
 
@@ -22,9 +20,9 @@ def rows_of(printed: bytes, group: str) -> list[str]:
 
 
 def check_threaded_groups(program: str) -> None:
-    """With the probe, a single thread counts in the group to which it was moved. Without the probe,
-    totals of these groups are beyond their limits, and the summary says that the threads' groups
-    are guessed.
+    """With the probe, a moved thread counts in the group to which it was moved. Without the probe,
+    the totals of the groups that contain single threads are beyond their limits, and the summary
+    says that the groups of threads are guessed.
     """
     with recording("threads") as folder:
         done = converted(folder)

@@ -1,5 +1,5 @@
-"""Checks of the times at which wakeups are counted: what the probe shows, the converter's choice of
-times, and bounds on the totals.
+"""Checks of the times at which wakeups are counted: the times that the probe records, the
+converter's choice among possible times, and bounds on the totals.
 """
 from __future__ import annotations
 
@@ -16,9 +16,9 @@ from psiread.events import Event, ReadyProbe, Switch, Wakeup  # noqa: E402
 # The part of the stored recording that is used: its first 20 s.
 PART = ("--to", "20")
 US = 1000
-# Psi counts task 8 at 100 us, and the wakeup event is at 160 us; then task 8 runs, and is counted
-# again when it moves. Psi counted task 9 long before its wakeup event, so that count belongs to
-# another wakeup.
+# Task 8 is counted by psi at 100 us, and its wakeup event is at 160 us. Then it runs, and is
+# counted again when it moves. Task 9 is counted long before its wakeup event, so the probe event
+# belongs to another wakeup.
 EVENTS: list[Event] = [
     ReadyProbe(100 * US, 0, 7, 8), Wakeup(160 * US, 0, 7, 8, 0), ReadyProbe(170 * US, 0, 7, 8),
     Switch(180 * US, 0, 7, 7, "S", 8),
@@ -27,30 +27,30 @@ EVENTS: list[Event] = [
 
 
 def check_what_the_probe_tells(_: str) -> None:
-    """Only a wakeup with its own probe event is paired. It gets the chosen time, and events stay in
-    the order of time.
+    """A wakeup is paired only with its own probe event. As chosen, it gets the time of the probe
+    event, the time of its own event, or the time halfway between. Events stay in order of time.
     """
     must_be("what is counted", counted_at(EVENTS), {1: 100 * US})
-    for counting, moment in ((Counting.PROBE, 100), (Counting.MIDDLE, 130), (Counting.EVENT, 160)):
+    for counting, time_us in ((Counting.PROBE, 100), (Counting.MIDDLE, 130), (Counting.EVENT, 160)):
         events = put_at(EVENTS, counted_at(EVENTS), counting)
         found = [it.time_ns // US for it in events if isinstance(it, Wakeup)]
-        must_be(f"the wakeups {counting}", found, [moment, 190, 60_000])
+        must_be(f"the wakeups {counting}", found, [time_us, 190, 60_000])
         must_be("the order", [it.time_ns for it in events], sorted(it.time_ns for it in events))
 
 
 def check_bounds_of_a_trace(_: str) -> None:
-    """A wakeup of a trace gets its earliest or its latest possible time, whatever time it had, and
-    never a time before its task slept.
+    """A wakeup can be moved to its earliest or its latest possible time, whatever its present time
+    is, but never to a time before its task slept.
     """
     for place in (100, 130, 160):
         lines = [
             "0 fork 8 / 0", "50000 switch 0 8 idle", "90000 switch 0 0 sleep",
             f"{place * US} wake 8 0", "170000 end",
         ]
-        for is_first, moment in ((True, 100), (False, 160)):
+        for is_first, time_us in ((True, 100), (False, 160)):
             found = with_wakeups(lines, bounds_of(EVENTS, 0), is_first)
             must_be(f"from {place}, {is_first}", found[3:],
-                    [f"{moment * US} wake 8 0", "170000 end"])
+                    [f"{time_us * US} wake 8 0", "170000 end"])
     lines[2] = "140000 switch 0 0 sleep"
     must_be("not before it slept", with_wakeups(lines, bounds_of(EVENTS, 0), True)[3],
             "140000 wake 8 0")
@@ -63,8 +63,8 @@ def check_bounds_of_a_trace(_: str) -> None:
 
 
 def totals_of(printed: bytes) -> list[tuple[str, int, int]]:
-    """Returns, for each total in a table, its group, the machine's growth and the trace's growth
-    (us).
+    """Returns the group, the machine's growth (us) and the trace's growth (us) of each total in a
+    table.
     """
     rows = re.findall(r"^\| (/\S*) +\| \S+ +\| +(\d+) \| +(\d+) \|[^|]*\| +(\d+) \| +(\d+) \|",
                       printed.decode(), re.MULTILINE)
@@ -72,9 +72,9 @@ def totals_of(printed: bytes) -> list[tuple[str, int, int]]:
 
 
 def check_the_bracket(program: str) -> None:
-    """Each total of the machine is between two totals of the trace: with wakeups at their events,
-    and with wakeups when psi counted them. With wakeups in the middle the totals are within the
-    limits.
+    """Each total that the machine reported lies between the totals of two traces. In one of them
+    tasks become ready at their wakeup events, in the other when the kernel's PSI counted the
+    wakeup. The totals of a trace with times halfway between are within the limits.
     """
     with recording("wakeups") as folder:
         done = converted(folder, *PART)
@@ -100,7 +100,7 @@ def check_the_bracket(program: str) -> None:
 
 
 def check_a_recording_without_the_probe(_: str) -> None:
-    """Without the probe, nothing is printed that only the probe could show."""
+    """Without the probe, the output contains no numbers that only the probe can provide."""
     with recording("wakeups") as folder:
         hide(folder, b"pch")
         done = converted(folder, *PART)

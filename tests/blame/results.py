@@ -1,4 +1,4 @@
-"""Checks of what tools/blame prints for options, growing groups, and faults."""
+"""Checks of the output of tools/blame: options, growing groups, and faults."""
 from __future__ import annotations
 
 import json
@@ -12,10 +12,10 @@ from shared.program import TOP
 
 BLAME = "tools/blame"
 SECOND = 10**9
-# On processor 0, /a runs up to 1 s while /b waits; /b waits on up to 2 s while nothing runs. On
-# processor 1, two tasks of /b wait while /a runs from 3 to 4 s, and one of them from 4 to 5 s. Then
-# /a waits for IO up to 7 s, when it runs again while a task of /b waits. From 5 s on, another task
-# of /b waits for IO.
+# On processor 0, /a runs until 1 s while /b waits; /b continues to wait until 2 s while nothing
+# runs. On processor 1, two tasks of /b wait while /a runs from 3 to 4 s, and one of them from 4 to
+# 5 s. Then /a waits for IO until 7 s, and runs again while a task of /b waits. From 5 s on, another
+# task of /b waits for IO.
 BY_HAND = """psitrace 1 cpus=2
 0 group /a
 0 group /b
@@ -39,12 +39,12 @@ BY_HAND = """psitrace 1 cpus=2
 
 
 def figures(text: str) -> dict[str, Any]:
-    """Returns the groups of a JSON output by name."""
+    """Returns the groups of blame's JSON output by name."""
     return {it["group"]: it for it in json.loads(text)["groups"]}
 
 
-def parts(told: list[dict[str, Any]]) -> dict[Optional[str], int]:
-    return {it["group"]: it["ns"] for it in told}
+def parts(entries: list[dict[str, Any]]) -> dict[Optional[str], int]:
+    return {it["group"]: it["ns"] for it in entries}
 
 
 def check_made_twice(room: Room) -> None:
@@ -69,8 +69,8 @@ def check_made_twice(room: Room) -> None:
 
 
 def check_depth_and_top(room: Room) -> None:
-    """With --depth, time in a group's descendants counts as the time of the group at that depth. If
-    there are more groups than --top shows, the output says how many are left out.
+    """With --depth, the time of deeper groups counts for their ancestor at that depth. If there are
+    more groups than --top allows, the output says how many are omitted.
     """
     deep = figures(room.run(BLAME, RUNAWAY, "--depth", "1", "--json").output)
     must_be("the groups", sorted(deep), ["/", "/batch", "/web"])
@@ -81,10 +81,11 @@ def check_depth_and_top(room: Room) -> None:
     must_be("the columns", top[-3].split(),
             ["waited", "\\", "ran", "there", "s", "/batch/import", "others"])
     must_be("the row", top[-2].split(), ["/batch", "21.233", "17.117", "4.116"])
-    # The root waited only when /batch did, so the matrix has one row for both.
-    told = room.run("psi_oomd", "stall", RUNAWAY).output.splitlines()
+    # The matrix has a single row for the root and /batch, because the root waited only while /batch
+    # did.
+    lines = room.run("psi_oomd", "stall", RUNAWAY).output.splitlines()
     waited = {
-        path: sum(int(it.split()[7]) for it in told if it.split()[2] == path)
+        path: sum(int(it.split()[7]) for it in lines if it.split()[2] == path)
         for path in ("/", "/batch")
     }
     must_be("the waits of the root", waited["/"], waited["/batch"])
@@ -101,13 +102,16 @@ def check_no_wait(room: Room) -> None:
     must_be("an empty trace", (done.status, done.output.splitlines()[-1]),
             (0, "no group waited for a processor"))
     room.file("idle.trace", "psitrace 1 cpus=1\n3000000000 end\n")
-    told = room.run(BLAME, "-", "--group", "/", given="psitrace 1 cpus=1\n3000000000 end\n").output
-    must_be("an idle one", told, "/ didn't wait for a processor between 0 s and 3 s\n")
+    output = room.run(BLAME, "-", "--group", "/",
+                      stdin="psitrace 1 cpus=1\n3000000000 end\n").output
+    must_be("an idle one", output, "/ didn't wait for a processor between 0 s and 3 s\n")
 
 
-def fault(room: Room, status: int, *words: str, given: str = "", **more: str) -> str:
-    """Returns the message of a run that must fail with this status and print nothing else."""
-    done: Done = room.run(BLAME, *words, given=given, **more)
+def fault(room: Room, status: int, *words: str, stdin: str = "", **more: str) -> str:
+    """Returns the message of a blame run that must fail with this status. The run must print
+    nothing else.
+    """
+    done: Done = room.run(BLAME, *words, stdin=stdin, **more)
     must_be(f"the status and the output of {words}, which said {done.error}",
             (done.status, done.output), (status, ""))
     must(done.error.startswith("blame: ") and "Traceback" not in done.error,
@@ -127,17 +131,17 @@ def check_faults(room: Room) -> None:
     refused = os.path.join(TOP, "examples", "refused.trace")
     must_be("a refused trace", fault(room, 2, refused),
             f"psi_oomd refuses {refused}: trace line 7: NotReady")
-    must_be("no trace", fault(room, 2, "-", given="nonsense"),
+    must_be("no trace", fault(room, 2, "-", stdin="nonsense"),
             "psi_oomd refuses -: trace line 1: BadHeader")
-    must_be("rules on standard input", fault(room, 2, "-", given="{}"),
+    must_be("rules on standard input", fault(room, 2, "-", stdin="{}"),
             "psi_oomd refuses -: trace line 1: BadHeader: it is JSON, like a rules file, "
             "not a trace")
     must_be("no file", fault(room, 4, "nope.trace"), "no file: nope.trace")
     must_be("a folder", fault(room, 5, "."), ". is a folder")
     os.mkdir(os.path.join(room.path, "recorded"))
     room.file("recorded/meta", "bytes 0\n")
-    told = "recorded is a recording: `tools/psitrace recorded` makes a trace of it"
-    must_be("a recording", fault(room, 5, "recorded"), told)
+    hint = "recorded is a recording: `tools/psitrace recorded` makes a trace of it"
+    must_be("a recording", fault(room, 5, "recorded"), hint)
     said = fault(room, 11, "a.trace", "--group", "/aa")
     must_be("no group", said, "no group /aa ever lived in the trace, which has /a, ..")
     must_be("no victim", fault(room, 11, "a.trace", "--victim", "/c/d"),
@@ -174,8 +178,8 @@ GROWTH = """psitrace 1 cpus=1
 
 
 def check_growth(room: Room) -> None:
-    """Growth of memory is counted from the last sample before the interval or, if there is none,
-    from the first sample in it. The manual page says so.
+    """The growth of memory is measured from the last sample before the interval, or from the first
+    sample in the interval if no sample precedes it. The manual page says the same.
     """
     room.file("a.trace", GROWTH)
     for start, grown in ((100, 100), (0, 100), (125, 50), (131, 0)):

@@ -1,5 +1,5 @@
-"""Runs a program and counts what the kernel reports about the run: calls that read and write,
-threads that were started, and address space.
+"""Runs a program and counts what the kernel reports about the run: read calls, write calls, started
+threads, and the size of the address space.
 """
 from __future__ import annotations
 
@@ -22,14 +22,13 @@ NOT_TRACED = 126
 
 
 class NotTold(Exception):
-    """Raised with the reason if the kernel doesn't report this."""
+    """Raised, with a reason, if the kernel doesn't provide these counts."""
 
 
 @dataclass
 class Calls:
-    """The totals of all threads of a run: calls that read, calls that write, started threads, and
-    the largest address space in KB, of which the run may have used only a part. `status` is the
-    exit status.
+    """The totals of all threads of a run: read calls, write calls, started threads, and the largest
+    address space (KB), which may be larger than the used memory. `status` is the exit status.
     """
 
     reads: int = 0
@@ -40,7 +39,7 @@ class Calls:
 
 
 def ask(request: int, who: int, data: int = 0) -> None:
-    """Makes the ptrace request for the stopped thread with the id `who`."""
+    """Makes a ptrace request for the stopped thread with the id `who`."""
     if LIBC.ptrace(request, who, None, data) < 0:
         error = ctypes.get_errno()
         # If the thread was killed in the meantime, waiting for it reports its exit.
@@ -49,8 +48,8 @@ def ask(request: int, who: int, data: int = 0) -> None:
 
 
 def start(words: list[str]) -> int:
-    """Starts a program, which stops when it is loaded. Its input is empty and its output is
-    discarded. Returns the process id.
+    """Starts a program under ptrace, which stops it as soon as it is loaded. Its input is empty,
+    and its output is discarded. Returns its process id.
     """
     child = os.fork()
     if child:
@@ -66,7 +65,9 @@ def start(words: list[str]) -> int:
 
 
 def told_in(child: int, name: str) -> dict[str, str]:
-    """Returns the lines of a file in /proc/CHILD by name: the text before and after the colon."""
+    """Parses a file in /proc/CHILD: returns the text after each line's colon, by the text before
+    the colon.
+    """
     try:
         with open(f"/proc/{child}/{name}", encoding="utf-8") as file:
             return dict(line.rstrip("\n").split(":", 1) for line in file)
@@ -75,15 +76,15 @@ def told_in(child: int, name: str) -> dict[str, str]:
 
 
 def take_down(child: int, calls: Calls) -> None:
-    """Stores the counts of all threads of the child so far."""
-    told = told_in(child, "io")
-    calls.reads, calls.writes = int(told["syscr"]), int(told["syscw"])
+    """Stores in `calls` what the kernel has counted for all threads of the child up to now."""
+    counters = told_in(child, "io")
+    calls.reads, calls.writes = int(counters["syscr"]), int(counters["syscw"])
     calls.addresses = int(told_in(child, "status")["VmPeak"].split()[0])
 
 
 def go_on(child: int, who: int, status: int, calls: Calls) -> None:
-    """Counts the event for which the thread `who` stopped, and continues it. A signal that isn't
-    the tracer's own is passed on to the thread.
+    """Counts the event at which the thread `who` stopped, and resumes the thread. Delivers a signal
+    to the thread if the tracer didn't cause it.
     """
     event, stop = status >> 16, os.WSTOPSIG(status)
     if event == EVENT_CLONE:

@@ -1,1 +1,1 @@
-"""The checks of tests/chart: what tools/chart and tools/top draw and print."""
+"""Checks of what tools/chart draws and of what tools/top prints."""

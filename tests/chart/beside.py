@@ -1,4 +1,5 @@
-"""Checks of charts that show a supposed run (without killed tasks) and the recorded run together.
+"""Checks of charts that compare two runs: the recorded one, and a supposed one in which the killed
+tasks are missing.
 """
 from __future__ import annotations
 
@@ -22,15 +23,15 @@ SHADED = "after the first kill: others as recorded"
 
 @functools.lru_cache(maxsize=None)
 def supposed(program: str) -> bytes:
-    """Returns the output of a replay of the story without the tasks of its victim."""
+    """Returns the output of a replay of the example trace without the tasks of its victim."""
     (kill,) = kills_of(story(program).decode())
     with open(os.path.join(TOP, "examples", "runaway.trace"), encoding="ascii") as file:
-        left = without(trace_of(file.read()), kill)
-    return run([program, "replay", "-", *RUNAWAY[2:]], left.text().encode())
+        remaining = without(trace_of(file.read()), kill)
+    return run([program, "replay", "-", *RUNAWAY[2:]], remaining.text().encode())
 
 
 def drawn_beside(printed: bytes, recorded: bytes, *words: str) -> Drawn:
-    """Returns the chart of `printed`, with the recorded output for comparison."""
+    """Returns the chart of `printed`, compared with the recorded output."""
     with tempfile.NamedTemporaryFile() as file:
         file.write(recorded)
         file.flush()
@@ -38,8 +39,8 @@ def drawn_beside(printed: bytes, recorded: bytes, *words: str) -> Drawn:
 
 
 def compare_recorded(drawn: Drawn, printed: Printed, group: str, number: int) -> None:
-    """Fails unless the thin lines of a group show exactly the recorded reports; `number` is the
-    group's index among the panels of a resource.
+    """Fails unless the thin lines in a group's panels show exactly the recorded reports. `number`
+    is the group's index among the panels of a resource.
     """
     for resource in RESOURCES:
         panel, share = drawn.panel(resource, number), drawn.share_scale(resource, number)
@@ -49,14 +50,14 @@ def compare_recorded(drawn: Drawn, printed: Printed, group: str, number: int) ->
                     point for line in drawn.lines(panel, f"{level} {average} was") for point in line
                 ]
                 wanted = [
-                    (drawn.x(moment), share(it))
-                    for moment, it in printed.shares[group, resource, level, average]
+                    (drawn.x(time_ns), share(it))
+                    for time_ns, it in printed.shares[group, resource, level, average]
                 ]
                 must_be_near(f"{resource} {level} {average} of {group} as recorded", points, wanted)
 
 
-def must_be_shaded(drawn: Drawn, moment: int) -> None:
-    """Fails unless each panel is shaded from this time (ns) to its right end, and nowhere else."""
+def must_be_shaded(drawn: Drawn, time_ns: int) -> None:
+    """Fails unless each panel is shaded exactly from this time (ns) to its right end."""
     shades = list(drawn.one("g", "shade").iter(f"{SVG}rect"))
     panels = drawn.panels()
     must_be("shades, how many", len(shades), len(panels))
@@ -65,7 +66,7 @@ def must_be_shaded(drawn: Drawn, moment: int) -> None:
             number_at(shade, name) for name in ("x", "width", "y", "height")
         )
         numbers = [place for _, place in drawn.numbers(panel)]
-        wanted = (drawn.x(moment), RIGHT, numbers[-1], numbers[0])
+        wanted = (drawn.x(time_ns), RIGHT, numbers[-1], numbers[0])
         must_be_near("a shade", [(left, left + width, top, top + height)], [wanted])
 
 
@@ -76,7 +77,7 @@ def check_beside_what_was(program: str) -> None:
     for number, group in enumerate(groups):
         compare_recorded(drawn, Printed(story(program)), group, number)
     must_be_shaded(drawn, KILL)
-    told = [
+    texts = [
         text
         for legend in ("legend", "legend beside")
         for text in drawn.texts(drawn.one("g", legend))
@@ -85,15 +86,13 @@ def check_beside_what_was(program: str) -> None:
         "thin: as recorded", "thick: without the tasks of who would be killed", SHADED,
         "would be killed",
     ):
-        must_be(f"how often the legend has {text!r}", told.count(text), 1)
+        must_be(f"how often the legend has {text!r}", texts.count(text), 1)
     counts = {text for panel in drawn.panels() for text in drawn.texts(panel) if "event" in text}
     must_be("numbers of events", counts, {"13 events", "26 events, was 67", "no events"})
 
 
 def check_scales_reach_up_to_both(program: str) -> None:
-    """The axis reaches up to the recorded values even if they are higher than the supposed ones,
-    and vice versa.
-    """
+    """An axis reaches the highest value of both runs, the recorded and the supposed one."""
     for printed, recorded in (
         (supposed(program), story(program)), (story(program), supposed(program))
     ):
@@ -111,12 +110,12 @@ def check_scales_reach_up_to_both(program: str) -> None:
 
 
 def check_a_part_beside_what_was(program: str) -> None:
-    """The shade begins at the first kill, or at the chart's start if that is later. A chart that
-    ends before the first kill has no shade.
+    """The shaded area begins at the first kill, or at the chart's start if the kill is earlier. A
+    chart that ends before the first kill has no shaded area.
     """
     words = ["--group=/batch", "--resource=memory"]
-    behind = drawn_beside(supposed(program), story(program), *words, "--from=200")
-    must_be_shaded(behind, 200 * 10**9)
+    later = drawn_beside(supposed(program), story(program), *words, "--from=200")
+    must_be_shaded(later, 200 * 10**9)
     before = drawn_beside(supposed(program), story(program), *words, "--to=146")
     must_be("shades before the kill", before.all("g", "shade"), [])
     plain = Drawn(drawn_of(supposed(program), *words))

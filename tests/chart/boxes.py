@@ -1,7 +1,8 @@
 """Finds texts of a picture that are outside of the picture, that overlap each other, or, if they
 are notes, that a curve crosses.
 
-Widths are those of DejaVu Sans, a wide font: a text that fits in this font fits in others.
+Text widths are computed for DejaVu Sans, a wide font: a text that fits in this font fits in
+narrower fonts.
 """
 from __future__ import annotations
 
@@ -32,18 +33,22 @@ BOLD = (
 )  # fmt: skip
 # The width of each character of a monospace font, in thousandths of the font size.
 MONOSPACE = 602
-# Font sizes (pixels): by the class of a text, of other texts, and on a phone of texts and of the
-# numbers of the share axis.
+# Font sizes (pixels). SIZES has the sizes by the class of a text, and SIZE is the size of a text
+# without such a class. On a phone, texts have the size PHONE, and the numbers at the axis of shares
+# have the size PHONE_SHARE.
 SIZES, SIZE = {"title": 16, "name": 13, "small": 11, "note": 11, "path": 11}, 12
 PHONE, PHONE_SHARE = 24, 20
-# What a phone doesn't show: texts of these classes, and every second number of these axes.
+# A phone hides texts of the classes in HIDDEN, and every second number of the axes in AXES.
 HIDDEN, AXES = {"small", "note", "path"}, {"time", "share"}
-# The number of points at which a segment of a curve is tested against a box.
+# The number of points on each segment of a curve at which it is tested whether the point is in a
+# box.
 PARTS = 16
 
 
 class Box(NamedTuple):
-    """A text, its class (`look`), and its left, right, top and bottom (pixels)."""
+    """The box of a text: the text, its class (`look`), and its left, right, top and bottom edges
+    (pixels).
+    """
 
     text: str
     look: str
@@ -58,7 +63,8 @@ class Box(NamedTuple):
         return width > 1 and min(self.bottom, other.bottom) - max(self.top, other.top) > 1
 
     def is_crossed(self, one: tuple[float, float], other: tuple[float, float]) -> bool:
-        """Returns whether the line between two points goes through the box."""
+        """Returns whether the line from the point `one` to the point `other` goes through the box.
+        """
         steps = [[a + (b - a) * part / PARTS for a, b in zip(one, other)] for part in range(PARTS)]
         return any(self.left < x < self.right and self.top < y < self.bottom for x, y in steps)
 
@@ -73,7 +79,7 @@ def width_of(text: str, look: str, size: float) -> float:
 
 
 def box_of(text: str, look: str, element: Element, size: float) -> Box:
-    """Returns the box of a text at the position of an SVG element."""
+    """Returns the box of a text that is drawn at the position of an SVG element."""
     x, y, anchor = (element.get(it) or "" for it in ("x", "y", "text-anchor"))
     width, base = width_of(text, look, size), float(y)
     base += 0.35 * size if element.get("dy") == ".35em" else 0
@@ -82,8 +88,8 @@ def box_of(text: str, look: str, element: Element, size: float) -> Box:
 
 
 def boxes_in(element: Element, group: str, is_phone: bool) -> Iterator[Box]:
-    """Yields the boxes of the texts in an element; `group` is the class of the group that contains
-    it. Rotated texts are left out.
+    """Yields the boxes of all texts in an element, except rotated texts. `group` is the class of
+    the SVG group that contains the element.
     """
     texts = 0
     for child in element:
@@ -107,7 +113,7 @@ def boxes_in(element: Element, group: str, is_phone: bool) -> Iterator[Box]:
 
 
 def curves_of(svg: Element) -> Iterator[tuple[tuple[float, float], tuple[float, float]]]:
-    """Yields the segments of all curves, each as two points."""
+    """Yields the straight segments of all curves, each as a pair of points."""
     for group in svg.iter(f"{SVG}g"):
         if (group.get("class") or "").startswith("series"):
             for line in group.iter(f"{SVG}polyline"):
@@ -117,7 +123,7 @@ def curves_of(svg: Element) -> Iterator[tuple[tuple[float, float], tuple[float, 
 
 
 def faults_of(svg: Element, is_phone: bool) -> Iterator[str]:
-    """Yields the faults of the texts of a picture, as lines."""
+    """Yields a message for each text of a picture that is misplaced."""
     left, top, width, height = map(float, (svg.get("viewBox") or "").split())
     boxes = [it for it in boxes_in(svg, "", is_phone) if it.text]
     must(bool(boxes), "the picture has texts")

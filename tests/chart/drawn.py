@@ -24,9 +24,9 @@ SHARE_STEPS = (0.2, 0.5, 1, 2, 5, 10, 20)
 LEFT, RIGHT = 112, 936
 
 
-def piped(words: Sequence[str], chart_words: Sequence[str] = (), given: bytes = b"") -> bytes:
-    """Returns the chart of the replay with these words; the replay writes into the chart's standard
-    input.
+def piped(words: Sequence[str], chart_words: Sequence[str] = (), stdin: bytes = b"") -> bytes:
+    """Runs a command, pipes its output into tools/chart, and returns the chart. `stdin` is the
+    command's standard input.
     """
     with subprocess.Popen(words, cwd=TOP, stdin=subprocess.PIPE, stdout=subprocess.PIPE) as first:
         assert first.stdin and first.stdout
@@ -35,7 +35,7 @@ def piped(words: Sequence[str], chart_words: Sequence[str] = (), given: bytes = 
         ) as second:
             assert second.stdout
             first.stdout.close()
-            first.stdin.write(given)
+            first.stdin.write(stdin)
             first.stdin.close()
             drawn = second.stdout.read()
     must_be(f"the two statuses of {words}", (first.returncode, second.returncode), (0, 0))
@@ -47,8 +47,8 @@ def drawn_of(printed: bytes, *words: str) -> bytes:
 
 
 def scale_of(marks: Sequence[tuple[float, float]]) -> Scale:
-    """Returns a function from a number to its position on an axis, computed from the axis's first
-    and last mark.
+    """Returns a function from a number to its position on an axis. The scale is computed from the
+    first and the last mark of the axis.
     """
     (first, first_place), (last, last_place) = marks[0], marks[-1]
     must(first != last, "an axis has two numbers")
@@ -75,8 +75,8 @@ def inner(element: Element, tag: str) -> Element:
 
 
 class Drawn:
-    """A parsed chart. If its axis shows time since the start of the trace, `x` returns the position
-    of a time in ns.
+    """A parsed chart. `x` returns the position of a time (ns), if the axis shows the time since the
+    start of the trace.
     """
 
     def __init__(self, drawn: bytes) -> None:
@@ -131,7 +131,7 @@ class Drawn:
         return self.all("g", f"panel {resource}")[number]
 
     def numbers(self, panel: Element) -> list[tuple[str, float]]:
-        """Returns the texts at a panel's axis, each with its height (y)."""
+        """Returns the labels of a panel's axis, each with its vertical position."""
         return [
             (it.text or "", number_at(it, "y"))
             for it in self.one("g", "share", panel).iter(f"{SVG}text")
@@ -148,8 +148,8 @@ class Drawn:
         return scale_of(marks)
 
     def lines(self, panel: Element, classes: str) -> list[list[tuple[float, float]]]:
-        """Returns the points of each line of a series. A report without neighbours is drawn as two
-        equal points, and returned as one.
+        """Returns the points of each line of a series. An isolated report is drawn as two equal
+        points, and returned as one point.
         """
         found = []
         for line in self.one("g", f"series {classes}", panel).iter(f"{SVG}polyline"):
@@ -165,7 +165,7 @@ class Drawn:
         return [(float(x), float(y)) for x, y in re.findall(r"M([0-9.]+) ([0-9.]+)v6", paths)]
 
     def marks(self, kind: str) -> list[Element]:
-        """Returns the vertical lines of this kind: kills, or removals of groups."""
+        """Returns the vertical lines of this kind. The kinds are kills and removals of groups."""
         return self.all("g", kind, self.one("g", "marks"))
 
     def places(self, kind: str) -> list[float]:
@@ -176,7 +176,8 @@ class Drawn:
         return [number_at(inner(mark, "line"), "x1") for mark in self.marks(kind)]
 
     def mark_texts(self, kind: str) -> list[list[str]]:
-        """Returns the texts beside each vertical line of this kind; an empty list if it has none.
+        """Returns the texts beside each vertical line of this kind: a list for each line, which may
+        be empty.
         """
         return [self.texts(mark) for mark in self.marks(kind)]
 
@@ -185,7 +186,8 @@ class Drawn:
         return [(inner(mark, "title").text or "").split("\n") for mark in self.marks(kind)]
 
     def rules(self, panel: Element) -> Iterator[tuple[str, float, str]]:
-        """Yields the class, the height (y) and the text of each threshold in a panel."""
+        """Yields the class, the vertical position and the text of each threshold line in a panel.
+        """
         for group in self.all("g", "rule", panel):
             line = inner(group, "polyline")
             (left, y), (right, other) = (
@@ -198,11 +200,11 @@ class Drawn:
 
 
 def spans_of(drawn: Drawn) -> list[tuple[float, float, float, str]]:
-    """Returns the left end, the right end, the height and the text of each text beside a vertical
-    line.
+    """Returns the left end, the right end, the vertical position and the text of each text beside a
+    vertical line.
 
-    Letters of usual monospaced fonts are up to 0.61 of the font size wide; the font size is 11
-    pixels.
+    The letters of usual monospaced fonts are at most 0.61 times as wide as the font size, which is
+    11 pixels.
     """
     spans = []
     for text in drawn.all("text", "path"):
@@ -214,8 +216,7 @@ def spans_of(drawn: Drawn) -> list[tuple[float, float, float, str]]:
 
 
 def compare_paths(drawn: Drawn) -> None:
-    """Fails if the text of a vertical line overlaps another one, or if such a line crosses a text.
-    """
+    """Fails if texts beside vertical lines overlap, or if a vertical line crosses such a text."""
     lines = [inner(it, "line") for kind in ("kill", "gone") for it in drawn.marks(kind)]
     tops = [(number_at(it, "x1"), number_at(it, "y1")) for it in lines]
     spans = spans_of(drawn)
@@ -230,8 +231,8 @@ def compare_paths(drawn: Drawn) -> None:
 def compare_panel(
     drawn: Drawn, printed: Printed, group: str, resource: str, number: int, start: float, end: float
 ) -> None:
-    """Fails unless a panel shows each printed report and event from `start` to `end` (ns) at its
-    time and value, and no others. `number` is the group's index among the panels of the resource.
+    """Fails unless a panel shows exactly the printed reports and events from `start` to `end` (ns),
+    each at its time and value. `number` is the group's index among the panels of the resource.
     """
     panel, share = drawn.panel(resource, number), drawn.share_scale(resource, number)
     for level in LEVELS:
@@ -243,7 +244,7 @@ def compare_panel(
             ]
             must(bool(shares), f"there are reports of {group}")
             points = [point for line in drawn.lines(panel, f"{level} {average}") for point in line]
-            wanted = [(drawn.x(moment), share(it)) for moment, it in shares]
+            wanted = [(drawn.x(time_ns), share(it)) for time_ns, it in shares]
             must_be_near(f"{resource} {level} {average} of {group}", points, wanted)
         events = [it for it in printed.events[group, resource, level] if start <= it <= end]
         ticks = drawn.ticks(panel, level)
@@ -260,18 +261,18 @@ def compare(
     start: float = 0,
     end: float = float("inf"),
 ) -> None:
-    """Fails unless the chart shows each printed report, event and kill from `start` to `end` (ns)
-    at its time and value, and no others.
+    """Fails unless the chart shows exactly the printed reports, events and kills from `start` to
+    `end` (ns), each at its time and value.
     """
     for resource in resources:
         must_be(f"panels of {resource}", len(drawn.all("g", f"panel {resource}")), len(groups))
         for number, group in enumerate(groups):
             compare_panel(drawn, printed, group, resource, number, start, end)
     kills = [it for it in printed.kills if start <= it[0] <= end]
-    told = [
+    paths = [
         [line.split(" would be killed at ")[0] for line in hints] for hints in drawn.hints("kill")
     ]
-    must_be("paths of kills", told, [[path] for _, path in kills])
+    must_be("paths of kills", paths, [[path] for _, path in kills])
     must_be_near("kills", [(it,) for it in drawn.places("kill")],
-                 [(drawn.x(moment),) for moment, _ in kills])
+                 [(drawn.x(time_ns),) for time_ns, _ in kills])
     compare_paths(drawn)

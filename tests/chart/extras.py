@@ -1,5 +1,5 @@
-"""Checks of what a chart shows in addition to a replay's output: names and thresholds of rules,
-memory of groups, and interrupts.
+"""Checks of optional parts of a chart: names and thresholds of rules, memory of groups, and
+interrupts.
 """
 from __future__ import annotations
 
@@ -23,8 +23,8 @@ NAME = "batch work is short of memory"
 
 
 def pressure(cgroup: str, threshold: Any, **others: Any) -> dict[str, Any]:
-    """Returns a detector of pressure, of the kind pressure_rising_beyond if `rises` is true. Other
-    named values replace or add arguments.
+    """Returns a pressure detector: pressure_rising_beyond if `rises` is true, and pressure_above if
+    not. The other keyword arguments replace or add arguments of the detector.
     """
     name = "pressure_rising_beyond" if others.pop("rises", False) else "pressure_above"
     return {
@@ -36,7 +36,7 @@ def pressure(cgroup: str, threshold: Any, **others: Any) -> dict[str, Any]:
 
 
 def drawn_with(printed: bytes, rules: dict[str, Any], *words: str) -> Drawn:
-    """Returns the chart of `printed` with a rules file that contains `rules`."""
+    """Returns the chart of `printed`, drawn with a rules file that contains `rules`."""
     with tempfile.NamedTemporaryFile("w", suffix=".json") as file:
         json.dump(rules, file)
         file.flush()
@@ -44,8 +44,8 @@ def drawn_with(printed: bytes, rules: dict[str, Any], *words: str) -> Drawn:
 
 
 def without_kill(program: str) -> bytes:
-    """Returns the story's replay without its kill line, for charts with other rules, which lack the
-    ruleset that killed.
+    """Returns the output of the example's replay without its kill line. Charts with other rules
+    need it, since those rules lack the ruleset that killed.
     """
     return b"".join(
         line for line in story(program).splitlines(keepends=True) if not line.startswith(b"kill")
@@ -53,8 +53,8 @@ def without_kill(program: str) -> bytes:
 
 
 def must_have_rules(drawn: Drawn, number: int, wanted: Sequence[tuple[str, float, str]]) -> None:
-    """Fails unless the memory panel of a group has these thresholds: each a class, a percentage and
-    a text.
+    """Fails unless a group's memory panel has exactly these thresholds. Each has a class, a
+    percentage and a text.
     """
     found = list(drawn.rules(drawn.panel("memory", number)))
     must_be("thresholds", [(look, text) for look, _, text in found],
@@ -82,8 +82,8 @@ def check_names_of_rulesets(program: str) -> None:
 
 
 def check_names_of_several_rulesets(program: str) -> None:
-    """The title has the number of rulesets, and each kill has its ruleset's name as long as there
-    is room.
+    """The title has the number of rulesets. Each kill is labelled with the name of its ruleset if
+    there is room.
     """
     lines = [
         b"kill %d000000000 ruleset=%d action=0 /batch/import\n" % (100 + 50 * it, it)
@@ -94,15 +94,15 @@ def check_names_of_several_rulesets(program: str) -> None:
     drawn = drawn_with(printed, rules)
     must_be("the title", drawn.title, "Pressure of /, 5 min, 2 would-be kills by 2 rulesets")
     texts = [
-        [f"/batch/import would be killed at {moment} s by '{name}'"]
-        for moment, name in ((100, "one"), (150, "other"))
+        [f"/batch/import would be killed at {seconds} s by '{name}'"]
+        for seconds, name in ((100, "one"), (150, "other"))
     ]
     must_be("what stands beside them", drawn.mark_texts("kill"), texts)
 
 
 def check_names_that_a_picture_cannot_have(program: str) -> None:
-    """A ruleset's name with control characters or XML markup, longer than the available room, is
-    shown with replacement characters, and overlaps nothing.
+    """A ruleset's name with control characters or XML markup is shown with replacement characters.
+    Even if it is longer than the available room, it overlaps no other text.
     """
     name = 'a\x00b\x1b<&"\ufffe' + "long " * 60
     rules = rules_of(pressure("*", "40"), name=name)
@@ -114,8 +114,8 @@ def check_names_that_a_picture_cannot_have(program: str) -> None:
 
 
 def check_thresholds(program: str) -> None:
-    """Thresholds are in the panels of the groups and the resource that a detector watches, and in
-    no others.
+    """A threshold is drawn in the panels of the groups and of the resource that its detector
+    watches, and in no other panel.
     """
     detectors = (
         pressure("/web,batch/*", "90"), pressure("b*tch", 35, rises=True),
@@ -141,16 +141,17 @@ def check_thresholds(program: str) -> None:
 
 
 def check_thresholds_that_are_near(program: str) -> None:
-    """Equal thresholds share a label, and labels of near thresholds don't overlap."""
+    """Equal thresholds share a label. Labels of thresholds that are close together don't overlap.
+    """
     detectors = [pressure("batch", str(it)) for it in (40, 40, 41, 42, 43, 44)]
     rules = rules_of(*detectors)
     rules["rulesets"] += rules_of(pressure("batch", 40), name="S")["rulesets"]
     drawn = drawn_with(without_kill(program), rules, "--group=/batch")
-    told = "full over 10 s above {} % for 20 s: R"
-    both = f"{told.format(40)}; full over 10 s above 40 % for 20 s: S"
+    label = "full over 10 s above {} % for 20 s: R"
+    both = f"{label.format(40)}; full over 10 s above 40 % for 20 s: S"
     must_have_rules(
         drawn, 0,
-        [("avg10", it, told.format(it)) for it in (44, 43, 42, 41)] + [("avg10", 40, both)],
+        [("avg10", it, label.format(it)) for it in (44, 43, 42, 41)] + [("avg10", 40, both)],
     )
     notes = drawn.all("text", "note", drawn.panel("memory"))
     places = [(it.get("text-anchor"), float(it.get("y") or 0)) for it in notes]
@@ -162,8 +163,8 @@ def check_thresholds_that_are_near(program: str) -> None:
 
 
 def boxes_of(panel: Element) -> list[tuple[str, float, float, float, float]]:
-    """Returns the text, left, right, top and bottom of each label of a threshold. Letters of 11
-    pixels are 6 pixels wide on average.
+    """Returns the text of each threshold label with its left, right, top and bottom edges (pixels).
+    Letters in a font of 11 pixels are 6 pixels wide on average.
     """
     found = []
     for it in panel.iter(f"{SVG}text"):
@@ -216,7 +217,7 @@ def check_labels_cover_nothing(program: str) -> None:
     must(shown > 15, f"there are labels: {shown}")
 
 
-# Groups with long names that differ only in the last character.
+# Groups with long names that differ only in the last character, and a trace and rules for them.
 CUSTOMER = "/customers.slice/a-long-name-of-a-customer-and-a-namespace.slice"
 LONG_NAMES = (f"{CUSTOMER}/kubepods-burstable-pod4fd3c2b1.slice",
               f"{CUSTOMER}/kubepods-burstable-pod4fd3c2b2.slice")
@@ -233,8 +234,7 @@ LONG_TRACE = "\n".join([
 
 
 def check_texts_fit(program: str) -> None:
-    """No text is outside of the picture, and none covers another one, however long the names are.
-    """
+    """No text leaves the picture or covers another text, however long the names are."""
     rules = rules_of(name="a ruleset whose name says all that it does, when, and why")
     action = {"name": "kill_by_memory_size_or_growth", "args": {"cgroup": "*/*/*"}}
     rules["rulesets"][0].update(detectors=[["stalls", pressure("*/*/*", "20")]], actions=[action])
@@ -258,28 +258,27 @@ def check_texts_fit(program: str) -> None:
 
 
 def check_interrupts_of_a_replay(program: str) -> None:
-    """The last panel shows the interrupts that a replay of a version 2 trace reports for each
-    group.
-    """
-    given = ["replay", "examples/kernel/42-v2-irq.trace", "--report-s=2"]
-    printed = Printed(run([program, *given]))
+    """The last panel shows the interrupts of each group, if the trace has version 2."""
+    words = ["replay", "examples/kernel/42-v2-irq.trace", "--report-s=2"]
+    printed = Printed(run([program, *words]))
     for group in ("/", "/a"):
-        drawn = Drawn(drawn_of(run([program, *given]), "--group", group))
+        drawn = Drawn(drawn_of(run([program, *words]), "--group", group))
         must_be("panels", drawn.panel_names(),
                 [f"{it} pressure" for it in ("IO", "memory", "CPU", "interrupt")])
         compare(printed, drawn, [group])
         share = drawn.share_scale("irq")
         for average in AVERAGES:
             shares = printed.shares[group, "irq", "full", average]
-            must_be("reports of interrupts", [moment // SECOND for moment, _ in shares], [2, 4, 6])
+            must_be("reports of interrupts", [time_ns // SECOND for time_ns, _ in shares],
+                    [2, 4, 6])
             (points,) = drawn.lines(drawn.panel("irq"), f"full {average}")
             must_be_near(f"interrupts {average}", points,
-                         [(drawn.x(moment), share(it)) for moment, it in shares])
+                         [(drawn.x(time_ns), share(it)) for time_ns, it in shares])
 
 
 def check_interrupts(_: str) -> None:
-    """If reports of a drawn group have interrupts, the chart has another panel, with lines of
-    `full` only.
+    """If the replay's output has interrupt pressure of a drawn group, the chart has an additional
+    panel. Its curves show only `full`.
     """
     file = "full avg10=9.05 avg60=1.63 avg300=0.34 total=1000000\n"
     none = "avg10=0.00 avg60=0.00 avg300=0.00 total=0\n"
@@ -299,7 +298,7 @@ def check_interrupts(_: str) -> None:
             shares = printed.shares["/", "irq", "full", average]
             (points,) = drawn.lines(drawn.panel("irq"), f"full {average}")
             must_be_near(f"interrupts {average}", points,
-                         [(drawn.x(moment), share(it)) for moment, it in shares])
+                         [(drawn.x(time_ns), share(it)) for time_ns, it in shares])
             must_be("lines of some", drawn.lines(drawn.panel("irq"), f"some {average}"), [])
     plain = Drawn(drawn_of(f"{others}{end}".encode()))
     must_be("panels without them", plain.panel_names(),

@@ -1,4 +1,4 @@
-"""Checks that input which can't be drawn is reported, and that the message says what to do."""
+"""Checks of chart's messages about input that can't be drawn: each says what to do."""
 from __future__ import annotations
 
 import functools
@@ -18,7 +18,7 @@ chart_fault = functools.partial(fault_of, CHART)
 
 
 def must_say(said: str, *parts: str) -> None:
-    """Fails unless `said` is a message of chart that contains these parts."""
+    """Fails unless `said` is a message of chart and contains all of these parts."""
     must(said.startswith("chart: ") and said.endswith("\n"), f"{said!r} is told by the chart")
     for part in parts:
         must(part in said, f"{said!r} has {part!r}")
@@ -48,12 +48,12 @@ def check_unknown_lines(program: str) -> None:
     ]  # fmt: skip
     for place, instead in edits:
         text = lines[:place] + instead + lines[place + 1 :]
-        # The first line that is wrong: the edited line, the line that took its place, or the line
-        # after it.
+        # The number (from 1) of the first wrong line. If `instead` has two lines, it is the second
+        # of them. If not, it is the line at `place`.
         number = place + (2 if len(instead) == 2 else 1)
         shown = text[number - 1].decode("latin-1")
-        told = repr(shown[:60].rstrip("\n")) + (".." if len(shown) > 60 else "")
-        wanted = f"chart: line {number}: replay prints no such line here: {told}{ADVICE}\n"
+        quoted = repr(shown[:60].rstrip("\n")) + (".." if len(shown) > 60 else "")
+        wanted = f"chart: line {number}: replay prints no such line here: {quoted}{ADVICE}\n"
         must_be(f"{instead} for line {place + 1}", chart_fault(b"".join(text)), wanted)
 
 
@@ -88,8 +88,8 @@ def check_too_little(program: str) -> None:
 
 
 def check_a_group_by_its_last_component(program: str) -> None:
-    """`--group` may be the last component of a path. It must match one group; if several groups
-    match, the message lists them.
+    """`--group` also accepts the last component of a group's path. If several groups match, the
+    message lists them.
     """
     printed = story(program)
     by_path = run([CHART, "--group=/batch"], printed)
@@ -160,7 +160,9 @@ def check_rules_that_cannot_be_read(program: str) -> None:
 
 
 def check_rules_of_another_replay(program: str) -> None:
-    """If the rules can't have caused a kill, they aren't those of the replay: the fault says so."""
+    """If a kill in the output can't come from the rules, the message says that the replay used
+    other rules.
+    """
     printed = story(program)
     kill = {
         "name": "kill_by_memory_size_or_growth",
@@ -178,7 +180,7 @@ def check_rules_of_another_replay(program: str) -> None:
                 file,
             )
             file.flush()
-            told = (
+            message = (
                 f"{file.name}: ruleset 0, action 0 is of 'web,*', and the replay's kills "
                 "/batch/import: give the rules file of this replay"
             )
@@ -188,14 +190,15 @@ def check_rules_of_another_replay(program: str) -> None:
             ):
                 if recursive == "false":
                     said = fault_of(tool, printed, *words, "--rules", file.name)
-                    must_be("other rules", said, f"{os.path.basename(tool)}: {told}\n")
+                    must_be("other rules", said, f"{os.path.basename(tool)}: {message}\n")
                 else:  # with recursive victims, `*` reaches /batch/import by way of /batch
                     must(b"the database" in run([tool, *words, "--rules", file.name], printed),
                          f"{tool}: the kill has its label")
 
 
 def check_a_summary_of_another_trace(program: str) -> None:
-    """A summary is rejected if its trace has another length, since its time of day would be wrong.
+    """A summary of a trace with a different length is rejected, since its time of day would be
+    wrong.
     """
     printed = story(program)
     for length, is_same in (
@@ -226,11 +229,13 @@ def check_a_summary_of_another_trace(program: str) -> None:
 
 
 def check_inputs_of_another_kind(program: str) -> None:
-    """For input of another kind, the message says what the input is and what to do with it."""
+    """If the input isn't the output of a replay, the message says what it is and what to do with
+    it.
+    """
     printed = story(program)
     with open(os.path.join(TOP, "examples", "runaway.trace"), "rb") as file:
         trace = file.read()
-    for given, told in (
+    for data, message in (
         (
             trace,
             (
@@ -250,15 +255,15 @@ def check_inputs_of_another_kind(program: str) -> None:
                                  os.path.join(TOP, "tools", "openmetrics"), "--start",
                                  "2026-11-28T13:58:12Z",
                              )):  # fmt: skip
-            must_be(told, fault_of(tool, given, *words),
-                    f"{os.path.basename(tool)}: the input: {told}\n")
+            must_be(message, fault_of(tool, data, *words),
+                    f"{os.path.basename(tool)}: the input: {message}\n")
     huge = b"report " + b"9" * 5000 + b" / io\n"
     must("replay prints no such line here" in chart_fault(huge), "a number that no replay prints")
 
 
 def check_files_of_another_kind(program: str) -> None:
-    """The file argument of chart and of top is a trace. For another file, the message says what the
-    file is.
+    """The tools chart and top expect a trace as their file argument. For another file, the message
+    says what the file is.
     """
     printed, want = story(program), os.path.join(TOP, "examples", "runaway.want")
     with tempfile.NamedTemporaryFile() as file:
@@ -286,8 +291,8 @@ def check_traces_that_cannot_be_read(program: str) -> None:
     other = "examples/one-wait.trace ends at 2000000000 ns, and the replay at 300000000000 ns"
     must_be("another trace", said, f"chart: {other}: give the trace of this replay\n")
     with tempfile.NamedTemporaryFile("wb") as file:
-        # The trace is rejected at its second line, while the chart still writes lines to the
-        # program.
+        # The program rejects the trace at its second line, while the chart still writes lines to
+        # it.
         file.write(b"psitrace 1 cpus=1\n0 mem / 1 1\n" + b"x mem / y\n0 mem\n0 rmgroup\n" * 100000)
         file.flush()
         said = chart_fault(printed, f"--trace={file.name}")

@@ -15,7 +15,8 @@ Steps = list[tuple[float, float]]
 SECOND = 10**9
 UNITS = {"bytes": 1, "KiB": 2**10, "MiB": 2**20, "GiB": 2**30, "TiB": 2**40}
 
-# Groups with and without samples; one group is removed, and created again without a sample.
+# A trace of groups with and without memory samples. One group is removed, and is created again
+# without a sample.
 MEMORY_TRACE = """psitrace 1 cpus=1
 0 host 8589934592 0 0
 0 group /a
@@ -38,14 +39,14 @@ def memory(cgroup: str, threshold: str) -> dict[str, Any]:
 
 
 def rules_of(*detectors: dict[str, Any], name: str = "R") -> dict[str, Any]:
-    """Returns rules with one ruleset `name`, whose detectors are each in a group of their own."""
+    """Returns rules with one ruleset `name`. Each detector has a detector group of its own."""
     action = {"name": "kill_by_pressure", "args": {"cgroup": "*/*", "resource": "io"}}
     groups = [["group", {"name": "exists", "args": {"cgroup": "x"}}, it] for it in detectors]
     return {"rulesets": [{"name": name, "detectors": groups or [["none"]], "actions": [action]}]}
 
 
 def drawn_memory(program: str, *words: str, trace: str = MEMORY_TRACE) -> Drawn:
-    """Returns the chart of a replay of this trace, including the panel of memory."""
+    """Returns the chart of a replay of this trace, drawn with the panel of memory."""
     with tempfile.NamedTemporaryFile("w", suffix=".trace") as file:
         file.write(trace)
         file.flush()
@@ -54,7 +55,9 @@ def drawn_memory(program: str, *words: str, trace: str = MEMORY_TRACE) -> Drawn:
 
 
 def byte_marks(drawn: Drawn, number: int = 0) -> list[tuple[float, float]]:
-    """Returns the sizes (bytes) at the axis of a group's memory panel, each with its height (y)."""
+    """Returns the sizes (bytes) at the axis of a group's memory panel, each with its vertical
+    position.
+    """
     numbers = [
         (text.partition(" "), place) for text, place in drawn.numbers(drawn.panel("use", number))
     ]
@@ -62,8 +65,8 @@ def byte_marks(drawn: Drawn, number: int = 0) -> list[tuple[float, float]]:
 
 
 def steps_of(drawn: Drawn, what: str, number: int = 0) -> list[Steps]:
-    """Returns the points of a group's line for memory or swap in seconds and GiB, computed from the
-    numbers at the axes.
+    """Returns the points of a group's line for memory or swap, as seconds and GiB. The scales are
+    computed from the axes.
     """
     panel = drawn.panel("use", number)
     scale = scale_of(byte_marks(drawn, number))
@@ -87,8 +90,8 @@ def check_memory_of_groups(program: str) -> None:
     again: Steps = [(12, 0), (20, 0)]
     must_be_steps("memory", steps_of(drawn, "memory"),
                   [[(1, 1), (4, 1), (4, 3), (4, 2), (8, 2)], again])
-    # A pixel column shows only its least and its greatest value, so the sample of 1 MiB of swap at
-    # 4 s is left out.
+    # A pixel column shows only its least and its greatest value. So the swap sample of 1 MiB at 4 s
+    # isn't drawn.
     must_be_steps("swap", steps_of(drawn, "swap"), [[(1, 0), (4, 0), (4, 0.5), (8, 0.5)], again])
     must_be("a group without a sample", drawn.texts(drawn.panel("use", 1))[-1],
             "no sample of its memory in this time")
@@ -101,8 +104,8 @@ def check_memory_of_groups(program: str) -> None:
 
 
 def check_thresholds_of_memory(program: str) -> None:
-    """A threshold in percent is relative to the machine's memory in the last host sample, and a
-    size is absolute.
+    """A threshold in percent refers to the machine's memory in the last host sample. A threshold in
+    bytes is absolute.
     """
     detectors = (
         [memory("a", it) for it in ("1.5G", "50%", "0.5g", "4", "3000000K")] + [memory("b", "1G")]
@@ -124,8 +127,8 @@ def check_thresholds_of_memory(program: str) -> None:
 
 
 def check_many_samples(program: str) -> None:
-    """The line of a trace with a sample each millisecond has few points, but shows the extremes of
-    each pixel column.
+    """If a trace has a sample for each millisecond, its line has few points, but shows the least
+    and the greatest value in each pixel column.
     """
     sizes = [(it * 7919) % 4096 * 2**20 for it in range(20000)]
     samples = "".join(f"{it * 10**6} mem / {size} 0 0\n" for it, size in enumerate(sizes))

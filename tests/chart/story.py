@@ -1,4 +1,4 @@
-"""Checks that charts show what was printed, each item in its place."""
+"""Checks that charts show everything that was printed, at the right place."""
 from __future__ import annotations
 
 import collections
@@ -63,9 +63,9 @@ def check_a_part(program: str) -> None:
     must_be_near("its start and its end", [(drawn.x(100500000000),), (drawn.x(150000000000),)],
                  [(112,), (936,)])
     compare(printed, Drawn(drawn_of(story(program), "--to=999999")), ["/"])
-    behind = Drawn(drawn_of(story(program), "--from=200"))
-    must_be("kills after the last", behind.marks("kill"), [])
-    must_be("the title of all the same", behind.title, "Pressure of /, 5 min, 1 would-be kill")
+    later = Drawn(drawn_of(story(program), "--from=200"))
+    must_be("kills after the last", later.marks("kill"), [])
+    must_be("the title of all the same", later.title, "Pressure of /, 5 min, 1 would-be kill")
 
 
 def check_several_groups(program: str) -> None:
@@ -82,7 +82,7 @@ def check_several_groups(program: str) -> None:
             tuple(text for text, _ in drawn.numbers(it))
             for it in drawn.all("g", f"panel {resource}")
         }
-        # The axis of a panel without pressure reaches from 0 to 1 %.
+        # The axis of a panel without pressure ends at 1 %.
         must_be(f"scales of {resource}, how many", len(scales - {("0 %", "1 %")}), 1)
     four = Drawn(
         drawn_of(
@@ -137,7 +137,7 @@ def check_what_would_be_killed(program: str) -> None:
     must("would be killed" in drawn.texts(drawn.one("g", "legend")),
          "the legend says that a kill would be one")
     crowded = b"".join(
-        b"kill %d ruleset=0 action=0 /a\n" % (moment * 10**9) for moment in range(100, 200)
+        b"kill %d ruleset=0 action=0 /a\n" % (second * 10**9) for second in range(100, 200)
     )
     printed = story(program).replace(
         b"kill 146000000000 ruleset=0 action=0 /batch/import\n", crowded
@@ -174,22 +174,24 @@ def check_axes_say_of_what(program: str) -> None:
 
 
 def day() -> bytes:
-    """Returns an output that a replay of a day could print, with a report every ten seconds."""
+    """Returns output of the form that a replay of a whole day prints, with a report each ten
+    seconds.
+    """
     draw = random.Random(1)
     lines = []
-    for moment in range(10**10, 864 * 10**11 + 1, 10**10):
+    for time_ns in range(10**10, 864 * 10**11 + 1, 10**10):
         if draw.random() < 0.1:
             lines += [
-                f"event {moment} trigger=0 / {draw.choice(RESOURCES)} {draw.choice(LEVELS)} 1 "
+                f"event {time_ns} trigger=0 / {draw.choice(RESOURCES)} {draw.choice(LEVELS)} 1 "
                 "500000"
             ]
         if draw.random() < 0.01:
             lines += [
-                f"kill {moment} ruleset=0 action=0 /"
+                f"kill {time_ns} ruleset=0 action=0 /"
                 f"{draw.choice('abc') * draw.choice((1, 20, 200))}"
             ] * 2
         for resource in RESOURCES:
-            lines += [f"report {moment} / {resource}"]
+            lines += [f"report {time_ns} / {resource}"]
             for level in LEVELS:
                 shares = " ".join(f"{average}={draw.random() * 100:.2f}" for average in AVERAGES)
                 lines += [f"{level} {shares} total=0"]
@@ -197,12 +199,12 @@ def day() -> bytes:
     return "\n".join([*lines, f"end {864 * 10**11} ticks=43200 events=0 kills={kills}\n"]).encode()
 
 
-def columns_of(drawn: Drawn, moments: list[int]) -> set[int]:
-    return {int(round(drawn.x(moment), 2)) for moment in moments}
+def columns_of(drawn: Drawn, times: list[int]) -> set[int]:
+    return {int(round(drawn.x(time_ns), 2)) for time_ns in times}
 
 
 def ends_of_columns(points: list[tuple[float, float]]) -> dict[int, tuple[float, float]]:
-    """Returns the smallest and the largest height (y) in each pixel column."""
+    """Returns the smallest and the largest vertical position of the points in each pixel column."""
     heights = collections.defaultdict(list)
     for x, y in points:
         heights[int(round(x, 2))].append(round(y, 2))
@@ -211,12 +213,13 @@ def ends_of_columns(points: list[tuple[float, float]]) -> dict[int, tuple[float,
 
 def compare_columns(printed: Printed, drawn: Drawn, resource: str, classes: str) -> None:
     """Fails unless a line shows the least and the greatest share in each pixel column, with at most
-    two points per column.
+    two points for each column.
     """
     level, average = classes.split(" ")
     share = drawn.share_scale(resource)
     reports = [
-        (drawn.x(moment), share(it)) for moment, it in printed.shares["/", resource, level, average]
+        (drawn.x(time_ns), share(it)) for time_ns, it in printed.shares["/", resource, level,
+                                                                        average]
     ]
     (points,) = drawn.lines(drawn.panel(resource), classes)
     found, wanted = ends_of_columns(points), ends_of_columns(reports)
@@ -243,14 +246,14 @@ def check_a_day(_: str) -> None:
             must_be("columns with events", ticks,
                     columns_of(drawn, printed.events["/", resource, level]))
     must_be("the title", drawn.title, f"Pressure of /, 1 d, {len(printed.kills)} would-be kills")
-    columns = columns_of(drawn, [moment for moment, _ in printed.kills])
+    columns = columns_of(drawn, [time_ns for time_ns, _ in printed.kills])
     must_be("columns with kills", {int(place) for place in drawn.places("kill")}, columns)
     named = sum(map(bool, drawn.mark_texts("kill")))
     must(0 < named < len(columns), "some kills have room for their paths, and not all")
     compare_paths(drawn)
     bare = [kill for kill in drawn.marks("kill") if not drawn.texts(kill)]
-    # Kills without a text are listed in a tooltip: two kills, or four and the number of further
-    # kills.
+    # A tooltip lists kills that have no text in the chart: two kills, or four kills and the number
+    # of others.
     hints = [(inner(kill, "title").text or "").split("\n") for kill in bare]
     unnamed = sum(4 + int(it[4].split(" ")[1]) if len(it) > 4 else len(it) for it in hints)
     must(f">{unnamed} upright lines without a path, " in drawn.text,
@@ -280,9 +283,9 @@ def check_it_stands_alone(program: str) -> None:
 
 
 def check_what_takes_no_room(program: str) -> None:
-    """A panel without pressure is low, and the legend leaves out what isn't drawn: this trace has
-    one wait for IO and no event or kill. Averages that only rise from 0 are thin lines, and a note
-    says why.
+    """A panel without pressure is low, and the legend leaves out what isn't drawn. Averages that
+    only rise from 0 are drawn as thin lines, and a note says why. The trace of this check has a
+    single wait for IO and no event or kill.
     """
     drawn = Drawn(
         drawn_of(

@@ -1,4 +1,4 @@
-"""Checks of the time axis, of the time of day, and of the trace's length in the title."""
+"""Checks of a chart's time axis, of times of day, and of the trace's length in the title."""
 from __future__ import annotations
 
 import datetime
@@ -17,7 +17,8 @@ REPORT = "report {} / io\n" + "".join(
 )
 KILL = "kill {} ruleset=0 action=0 /a\n"
 
-# The length of a trace in ms, the unit and the step of its axis, and its length in the title.
+# For each length of a trace (ms): the unit and the step of the time axis, and the length in the
+# title.
 LENGTHS = (
     (1, "seconds", 0.0001, "0.001 s"), (700, "seconds", 0.1, "0.7 s"),
     (2000, "seconds", 0.2, "2 s"),
@@ -27,14 +28,14 @@ LENGTHS = (
     (3456000000, "days", 5, "40 d"),
     (60000000000, "days", 100, "694 d 11 h"),
 )  # fmt: skip
-# The length of a trace in ns, and its length in the title.
+# For each length of a trace (ns): the length in the title.
 ROUNDED = (
     (1, "0.000000001 s"), (123456, "0.000123 s"), (12345678901, "12.3 s"), (59949999999, "59.9 s"),
     (59950000000, "1 min"), (299999123456, "5 min"), (3599500000000, "1 h"),
     (7230000000000, "2 h 1 min"),
     (86399999999999, "1 d"), (100000000000001, "1 d 4 h"),
 )  # fmt: skip
-# The time at which the trace began, its length in s, the marks of the axis, and the text below the
+# For each start of a trace and its length (s): the marks of the time axis, and the text below the
 # axis.
 WALLS = (
     ("2026-11-28T13:58:12Z", 300, ["13:58:30", "13:59:00", "13:59:30", "14:00:00", "14:00:30",
@@ -56,7 +57,7 @@ WALLS = (
 
 
 def short_replay(length: int) -> bytes:
-    """Returns an output that a replay of `length` ns could print: two reports and a kill."""
+    """Returns output of the form that a replay of `length` ns prints: two reports and a kill."""
     half = length // 2
     lines = REPORT.format(half) + KILL.format(half) + (
         REPORT.format(length) if length > half else ""
@@ -65,22 +66,25 @@ def short_replay(length: int) -> bytes:
 
 
 def check_time_axes(_: str) -> None:
-    """The axis has a few round steps of time for any length of trace, and the title has the length.
+    """For a trace of any length, the time axis has a few marks at round times, and the title has
+    the length.
     """
-    for length, unit, step, told in LENGTHS:
+    for length, unit, step, title in LENGTHS:
         text, whole = short_replay(length * MS), length * MS
         drawn = Drawn(drawn_of(text, "--resource", "io"))
         compare(Printed(text), drawn, ["/"], ["io"])
-        must_be(f"the unit of {told}", drawn.unit, unit)
-        must_be(f"the numbers of {told}", drawn.times[:2], [0, round(step * UNITS[unit])])
-        must_be_near(f"the ends of {told}", [(drawn.x(0),), (drawn.x(whole),)], [(LEFT,), (RIGHT,)])
-        must_be("the title", drawn.title, f"Pressure of /, {told}, 1 would-be kill")
+        must_be(f"the unit of {title}", drawn.unit, unit)
+        must_be(f"the numbers of {title}", drawn.times[:2], [0, round(step * UNITS[unit])])
+        must_be_near(f"the ends of {title}", [(drawn.x(0),), (drawn.x(whole),)],
+                     [(LEFT,), (RIGHT,)])
+        must_be("the title", drawn.title, f"Pressure of /, {title}, 1 would-be kill")
 
 
 def check_titles_are_rounded(_: str) -> None:
-    for length, told in ROUNDED:
+    for length, title in ROUNDED:
         drawn = Drawn(drawn_of(short_replay(length)))
-        must_be(f"the title of {length} ns", drawn.title, f"Pressure of /, {told}, 1 would-be kill")
+        must_be(f"the title of {length} ns", drawn.title,
+                f"Pressure of /, {title}, 1 would-be kill")
 
 
 def check_the_clock_on_the_wall(_: str) -> None:
@@ -93,7 +97,9 @@ def check_the_clock_on_the_wall(_: str) -> None:
 
 
 def check_marks_stand_where_the_clock_says(program: str) -> None:
-    """Each mark of the story's axis, and the kill, is at its time of day."""
+    """In the chart of the example trace, the kill and each mark of the axis are at their times of
+    day.
+    """
     start = "2026-11-28T13:58:12.5Z"
     drawn = Drawn(drawn_of(story(program), "--group=/batch", "--start", start))
     began = datetime.datetime.fromisoformat(start.replace("Z", "+00:00"))

@@ -1,5 +1,5 @@
-"""Checks of tools/top, of charts of the groups that stalled most, of a recording's start time, and
-of patterns that match no group.
+"""Checks of tools/top, of charts of the groups that stalled most, of a recording's start time in
+charts, and of patterns that match no group.
 """
 from __future__ import annotations
 
@@ -16,8 +16,8 @@ from .drawn import CHART, Drawn, drawn_of
 from .faults import chart_fault
 
 STORY = "runaway.trace"
-# Reports with totals in us. /a has a child, and /a/b was created again: its totals before and after
-# that are added.
+# Reports with totals in us. /a has the child /a/b, which is removed and created again. The totals
+# of both groups named /a/b are added.
 PRINTED = b"".join(
     b"report %d000000000 %s %s\nsome avg10=0.00 avg60=0.00 avg300=0.00 total=%d\n"
     b"full avg10=0.00 avg60=0.00 avg300=0.00 total=%d\n"
@@ -38,24 +38,24 @@ io some  io full  memory some  memory full  cpu some  cpu full  group
 
 
 def check_the_top(_: str) -> None:
-    """tools/top sorts groups without children by their full stall time, which is summed over all
-    groups that had the path.
+    """tools/top sorts groups without children by their full stall time. The time is summed over all
+    groups with the same path.
     """
     tool = f"{TOP}/tools/top"
     must_be("the table", run([tool], PRINTED).decode(), TABLE)
     must_be("the first two", run([tool, "2"], PRINTED).decode(),
             "".join(TABLE.splitlines(keepends=True)[:3]))
-    for words, given in (
+    for words, data in (
         (("0",), PRINTED), (("x",), PRINTED), ((), b"end 0 ticks=0 events=0 kills=0\n"),
         ((), b"no replay\n"),
     ):
-        done = subprocess.run([tool, *words], input=given, capture_output=True)
-        must_be(f"{words} of {given[:9]!r}", (done.returncode, done.stdout, done.stderr[:5]),
+        done = subprocess.run([tool, *words], input=data, capture_output=True)
+        must_be(f"{words} of {data[:9]!r}", (done.returncode, done.stdout, done.stderr[:5]),
                 (2, b"", b"top: "))
 
 
 def check_a_chart_of_the_top(program: str) -> None:
-    """A chart with --top shows exactly the groups that stalled most, in descending order."""
+    """A chart with --top shows exactly the groups that stalled most, sorted in descending order."""
     drawn = Drawn(drawn_of(story(program), "--top", "2", "--resource", "memory"))
     must_be("panels", drawn.panel_names(),
             ["memory pressure of /batch/import", "memory pressure of /batch/index"])
@@ -65,7 +65,7 @@ def check_a_chart_of_the_top(program: str) -> None:
 
 @contextlib.contextmanager
 def summary(text: str) -> Iterator[str]:
-    """Yields the name of a file that contains psitrace's messages."""
+    """Yields the name of a temporary file with `text`, which contains messages of psitrace."""
     with tempfile.NamedTemporaryFile() as file:
         file.write(text.encode())
         file.flush()
@@ -73,8 +73,8 @@ def summary(text: str) -> Iterator[str]:
 
 
 def check_what_the_summary_tells(program: str) -> None:
-    """The chart takes the time of day and the recording's start from the summary. If the summary
-    has no time of day, nothing changes.
+    """The chart uses the time of day and the recording's start from the summary. If the summary has
+    no time of day, the chart is unchanged.
     """
     whole = (
         "psitrace: 0 is 2026-11-30 03:01:36.000 UTC\n"
@@ -83,10 +83,10 @@ def check_what_the_summary_tells(program: str) -> None:
     with summary(whole) as file:
         text = Drawn(drawn_of(story(program), "--summary", file)).text
         must("time of day, 30 November 2026, UTC" in text, "the day stands below the axis")
-        given = drawn_of(story(program), "--start", "2026-11-30T03:01:36Z", "--from", "100")
-        must(drawn_of(story(program), "--summary", file) == given,
+        chart = drawn_of(story(program), "--start", "2026-11-30T03:01:36Z", "--from", "100")
+        must(drawn_of(story(program), "--summary", file) == chart,
              "it is the chart by --start and --from")
-        must(drawn_of(story(program), "--summary", file, "--from", "0") != given,
+        must(drawn_of(story(program), "--summary", file, "--from", "0") != chart,
              "--from goes before it")
         must(
             "give one of both"

@@ -1,5 +1,5 @@
-"""Checks of `tools/events`: its output for a recording, also for one whose pages are in several
-files, and its fault for a malformed page.
+"""Checks of `tools/events`: its output for recordings, with one or several page files per
+processor, and its message for a malformed page.
 """
 from __future__ import annotations
 
@@ -21,13 +21,13 @@ RECORDING = "mixlost"
 
 
 def run(*words: str) -> tuple[int, bytes, str]:
-    """Runs the tool; returns its status, its output and its message."""
+    """Runs tools/events, and returns its exit status, its output and its message."""
     done = subprocess.run([sys.executable, TOOL, *words], capture_output=True, check=False)
     return done.returncode, done.stdout, done.stderr.decode()
 
 
 def printed(program: str, folder: str, place: str) -> bytes:
-    """Returns what the program psi_convert prints for both processors of a recording."""
+    """Returns the output of psi_convert for the pages of both processors of a recording."""
     table = os.path.join(place, "table")
     with open(table, "w", encoding="utf-8") as file:
         file.write(table_of(folder))
@@ -67,11 +67,11 @@ def check_tool_on_a_malformed_page(program: str, place: str) -> None:
         expected = printed(program, folder, place)
         with open(path, "ab") as file:
             file.write(struct.pack("<QQ", 1, PAGE) + bytes(PAGE - 16))
-        told = (
-            "events: cpu1.raw: page 1, at byte 4096: its header reports more bytes than the page "
+        message = (
+            "events: cpu1.raw: page 1, at byte 4104: its header reports more bytes than the page "
             "has (TooLong)\n"
         )
-        must_be("the events", run(folder), (2, expected, told))
+        must_be("the events", run(folder), (2, expected, message))
 
 
 def check_tool_without_input(program: str, place: str) -> None:

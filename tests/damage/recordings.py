@@ -1,6 +1,6 @@
-"""Damages stored recordings at random and converts them. The same number gives the same damage.
-`psitrace` may reject any damaged recording, but never with a traceback, and `check` must accept
-each trace that `psitrace` writes.
+"""Damages stored recordings at random and converts them. The number of a damaged recording
+determines the damage. `psitrace` may reject any damaged recording, but never with a traceback, and
+`check` must accept each trace that `psitrace` writes.
 """
 from __future__ import annotations
 
@@ -28,8 +28,7 @@ from psiread.pages import page_at, records_of  # noqa: E402
 from psiread.recording import kernel_of  # noqa: E402
 
 BASES = ("exec-2", "cg-2", "mix-2", "threads", "wakeups")
-# The number of pages that are used of each processor; with few pages, a conversion takes a fraction
-# of a second.
+# The number of pages per processor. With few pages, a conversion takes a fraction of a second.
 PAGES = 6
 NUMBERS = (0, 1, 2, -1, -2, 3, 63, 64, 65, 255, 4096, 2**15, 2**31 - 1, -(2**31), 2**32, 2**53,
            2**62, 2**63 - 1, -(2**63), 10**18)
@@ -43,8 +42,8 @@ WORDS = ((), (), ("--force",), ("--fold=1",), ("--fold=1", "--force"), ("--force
 
 
 class Base(NamedTuple):
-    """A stored recording, cut to its first pages: the bytes of its files by name, and its event
-    formats by number.
+    """A stored recording that is cut to its first pages. `files` has the bytes of its files by
+    name, and `formats` its event formats by number.
     """
 
     files: dict[str, bytes]
@@ -53,7 +52,9 @@ class Base(NamedTuple):
 
 @functools.lru_cache(maxsize=None)
 def base_of(name: str) -> Base:
-    """Returns a stored recording's first pages, with the byte count in `meta` corrected."""
+    """Returns a stored recording with only its first pages, and with the right byte count in
+    `meta`.
+    """
     with recording(name) as folder:
         files = {}
         for one in os.listdir(folder):
@@ -79,11 +80,11 @@ class Damage:
         self.odd: dict[str, str] = {}
 
     def raw(self) -> str:
-        """Returns the name of a random file of pages."""
+        """Returns the name of a random page file."""
         return self.draw.choice(sorted(name for name in self.files if name.endswith(".raw")))
 
     def put(self, name: str, at: int, data: bytes) -> None:
-        """Overwrites bytes of a file from the offset `at`."""
+        """Overwrites bytes of a file, beginning at the offset `at`."""
         before = self.files[name]
         self.files[name] = before[:at] + data + before[at + len(data) :]
 
@@ -135,7 +136,7 @@ class Damage:
             self.put(name, at + self.draw.choice((0, 0, 8)), (value % 2**64).to_bytes(8, "little"))
 
     def order(self) -> None:
-        """Removes, doubles or reorders pages, and may cut bytes from the end."""
+        """Removes, repeats or reorders pages, and sometimes cuts bytes from the end."""
         name = self.raw()
         data = self.files[name]
         pages = [data[at : at + PAGE] for at in range(0, len(data), PAGE)]
@@ -178,7 +179,7 @@ class Damage:
         ]
 
     def packed(self) -> None:
-        """Compresses a file of pages, in some cases with a MiB of zeros at its end, and may cut the
+        """Compresses a page file, sometimes with a MiB of zeros at its end, and sometimes cuts the
         compressed bytes.
         """
         name = self.raw()
@@ -231,12 +232,12 @@ class Damage:
 
 @functools.lru_cache(maxsize=None)
 def kernel_page() -> Any:
-    """Returns the page layout of the stored recordings."""
+    """Returns the page layout of the kernel of the stored recordings."""
     with recording("exec-2") as folder:
         return kernel_of(folder).page
 
 
-# ---------------------------------------------------------------- converting
+# ---------------------------------------------------------------- converting damaged recordings
 
 
 def converted_here(folder: str, output: str, words: tuple[str, ...]) -> tuple[int, str]:
@@ -248,8 +249,8 @@ def converted_here(folder: str, output: str, words: tuple[str, ...]) -> tuple[in
 
 
 def convert(program: str, number: int) -> tuple[int, bool]:
-    """Damages and converts the recording with this number. Returns psitrace's status, and whether
-    psitrace wrote a trace; `check` must accept the trace.
+    """Damages the recording with this number, and converts it. If psitrace writes a trace, `check`
+    must accept the trace. Returns psitrace's status, and whether psitrace wrote a trace.
     """
     draw = random.Random(number)
     damage = Damage(base_of(draw.choice(BASES)), draw)

@@ -21,8 +21,8 @@ ELISION = "..."
 
 @dataclasses.dataclass
 class Block:
-    """A block of code: the document's line number of its first line (from 1), its lines, and
-    whether the document says not to run it.
+    """A code block of a document: the number of its first line (from 1), its lines, and whether the
+    document says not to run it.
     """
 
     number: int
@@ -32,7 +32,8 @@ class Block:
 
 @dataclasses.dataclass
 class Command:
-    """A command as it is typed, its line number in the document, and the lines that it must print.
+    """A command that a document shows, its line number in the document, and the lines that it must
+    print.
     """
 
     number: int
@@ -66,7 +67,7 @@ def blocks_of(text: str) -> Iterator[Block]:
 
 
 def commands_of(block: Block) -> Iterator[Command]:
-    """Yields the commands of a block, each with the output that it must print."""
+    """Yields the commands of a code block, each with the output that the document shows."""
     command = None
     lines = iter(enumerate(block.lines, block.number))
     for number, line in lines:
@@ -87,8 +88,8 @@ def commands_of(block: Block) -> Iterator[Command]:
 
 
 def is_as_wanted(wrote: list[str], wanted: list[str]) -> bool:
-    """Returns whether the lines equal the wanted ones. A wanted line of three dots matches any
-    number of lines.
+    """Returns whether the printed lines `wrote` equal the lines `wanted` of the document. In the
+    document, a line of three dots matches any number of lines.
     """
     if ELISION not in wanted:
         return wrote == wanted
@@ -99,7 +100,9 @@ def is_as_wanted(wrote: list[str], wanted: list[str]) -> bool:
 
 
 def fault_of(command: Command, folder: str) -> str:
-    """Runs a command, and returns how its result differs from the document, or '' if it doesn't."""
+    """Runs a command in the folder. Returns how its result differs from the document, or '' if it
+    doesn't differ.
+    """
     if command.text.startswith("# "):
         return "a command of root's has no comment that says why it isn't run"
     try:
@@ -118,15 +121,17 @@ def fault_of(command: Command, folder: str) -> str:
 
 
 def make_folder(folder: str, programs: dict[str, str]) -> None:
-    """Links everything from the top of the repository into this folder. The programs are linked
-    under the names of their launchers.
+    """Fills a folder with links to everything at the top of the repository. The names of the
+    launchers are links to the given programs instead.
     """
     for entry in TOP.iterdir():
         os.symlink(programs.get(entry.name, entry), os.path.join(folder, entry.name))
 
 
 def run_document(path: pathlib.Path, programs: dict[str, str]) -> tuple[int, list[str]]:
-    """Runs the document's commands; returns how many ran, and the faults as lines."""
+    """Runs the document's commands. Returns the number of commands that ran, and a message for each
+    fault.
+    """
     count, faults = 0, list[str]()
     with tempfile.TemporaryDirectory() as folder:
         make_folder(folder, programs)

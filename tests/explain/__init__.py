@@ -1,1 +1,1 @@
-"""The checks of `tools/rules explain`, and an independent computation of its output."""
+"""Checks of `tools/rules explain`, and an independent computation of the values that it prints."""

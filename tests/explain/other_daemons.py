@@ -1,7 +1,8 @@
 """Compares `tools/rules explain --by oomd` and `--by systemd-oomd` with values computed from a
 replay and the trace alone.
 
-It follows docs/OOMD.md and docs/SYSTEMD.md for the detectors and settings that the examples use.
+The computation follows docs/OOMD.md and docs/SYSTEMD.md, for the detectors and settings of the
+examples.
 """
 from __future__ import annotations
 
@@ -17,7 +18,8 @@ from shared.rooms import LOW, LOW_RULES, RUNAWAY, RUNAWAY_RULES, Room
 from explain.plain import SECOND, Look, Replayed, reports_of
 
 SYSTEMD = os.path.join(TOP, "examples", "runaway-systemd")
-# The limit (hundredths of a percent) and the duration (s) of /batch in these settings.
+# The pressure limit (hundredths of a percent) and the duration (s) for /batch in the example's
+# settings of systemd-oomd.
 LIMIT, LENGTH = 5000, 20
 INTERVAL = 5
 Share = tuple[int, int, str]
@@ -29,7 +31,7 @@ def text_of(path: str) -> str:
 
 
 def printed_of(room: Room, trace: str) -> str:
-    """A replay with a report each second."""
+    """Returns the output of a replay with a report each second."""
     return room.run("psi_oomd", "replay", trace, "--tick-ms=1000", "--report-s=1").output
 
 
@@ -40,8 +42,9 @@ def explained(room: Room, rules: str, trace: str, by: str) -> Any:
 
 
 class Detector:
-    """A detector as oomd evaluates it: its greatest value with its time and group, since when its
-    condition holds, the longest hold (ns), and whether it is true.
+    """A detector of oomd, and what it found at the evaluations so far. `best` has its greatest
+    value with time (ns) and group. `since` is the time (ns) since which its condition holds, or
+    None. `longest` is the longest time (ns) for which the condition held.
     """
 
     def __init__(self, plugin: Any) -> None:
@@ -71,8 +74,9 @@ class Detector:
         self.is_true = self.since is not None and look.moment - self.since >= duration * SECOND
 
     def watched(self, look: Look, paths: list[str]) -> tuple[int, str]:
-        """The value that counts, and whose it is: avg10 (hundredths of a percent) of the group with
-        the greatest weighted sum of its averages, or the most bytes.
+        """Returns the detector's value and the group with that value. The value is the largest
+        memory (bytes), or avg10 (hundredths of a percent) of the group with the greatest weighted
+        sum of averages.
         """
         if self.name == "memory_above":
             return max(((look.groups[it].memory, it) for it in paths), key=lambda it: it[0],
@@ -94,7 +98,9 @@ class Detector:
 
 
 def compare_detector(one: Any, it: Detector) -> None:
-    """The greatest value, when and whose it was, and the longest hold."""
+    """Compares a detector's greatest value, the time and the group of this value, and the longest
+    time for which the condition held.
+    """
     must_be("the detector", one["plugin"], it.name)
     if it.name == "memory_reclaim":
         must_be("the pages", one["absent"], f"scanned {it.pages} pages at its last look")
@@ -106,8 +112,9 @@ def compare_detector(one: Any, it: Detector) -> None:
 
 
 def compare_act(act: Any, look: Any, args: Any) -> None:
-    """The candidates are the matching groups, with their memory and its share; the victim has the
-    most if that is enough.
+    """Compares the share of memory that is printed for each candidate of an action with the share
+    computed from the groups' memory. If the largest group reaches the action's size threshold, it
+    must be the victim.
     """
     memory: dict[str, int] = {it["path"]: look[it["path"]] for it in act["candidates"]}
     total = sum(memory.values())
@@ -122,7 +129,9 @@ def compare_act(act: Any, look: Any, args: Any) -> None:
 
 
 def compare_oomd(room: Room, rules: str, trace: str) -> int:
-    """Compares all numbers of an explanation; returns the number of its firings."""
+    """Compares all numbers of an explanation with the computed ones. Returns how often rulesets
+    fired.
+    """
     with open(rules, encoding="utf-8") as file:
         rulesets = json.load(file)["rulesets"]
     found = explained(room, rules, trace, "oomd")
@@ -154,7 +163,7 @@ def compare_oomd(room: Room, rules: str, trace: str) -> int:
 
 
 def compare_rests(firings: Any, delay: int) -> None:
-    """After a kill the ruleset rests for its delay (ns), and then its actions run again."""
+    """After a kill the ruleset's actions don't run until its delay (ns) is over."""
     until = 0
     for it in firings:
         is_resting = it["moment_ns"] < until
@@ -166,8 +175,8 @@ def compare_rests(firings: Any, delay: int) -> None:
 
 
 def check_by_oomd_from_a_replay(room: Room) -> None:
-    """oomd's detectors, firings, rests and candidates have the numbers of a replay at ticks of a
-    second.
+    """The explanation for oomd has the detectors, firings, delays and candidates that follow from a
+    replay with ticks of one second.
     """
     must(compare_oomd(room, RUNAWAY_RULES, RUNAWAY) > 3, "the import's rules fired")
     must(compare_oomd(room, LOW_RULES, LOW) > 0, "the rules for memory fired")
@@ -181,13 +190,16 @@ def check_by_oomd_from_a_replay(room: Room) -> None:
 
 
 def compare_course(one: Any, shares: dict[int, int], path: str) -> None:
-    """The highest pressure, when it was first reached, and the longest time above the limit."""
+    """Compares the highest pressure, the time at which it was first reached, and the longest time
+    for which the pressure was above the limit. `shares` has the pressure (hundredths of a percent)
+    by time (ns).
+    """
     highest = max(shares.values())
-    at = next(moment for moment, share in sorted(shares.items()) if share == highest)
+    at = next(time_ns for time_ns, share in sorted(shares.items()) if share == highest)
     longest, since = 0, None
-    for moment, share in sorted(shares.items()):
-        since = (moment if since is None else since) if share > LIMIT else None
-        longest = max(longest, moment - since) if since is not None else longest
+    for time_ns, share in sorted(shares.items()):
+        since = (time_ns if since is None else since) if share > LIMIT else None
+        longest = max(longest, time_ns - since) if since is not None else longest
     must_be("the highest pressure", (round(one["value"] * 100), one["at_ns"], one["path"]),
             (highest, at, path))
     must_be("the longest hold", (one["longest_hold_ns"], one["duration_ns"]),
@@ -195,8 +207,8 @@ def compare_course(one: Any, shares: dict[int, int], path: str) -> None:
 
 
 def compare_candidates(firing: Any, text: str) -> None:
-    """The candidates have the memory and the swap of the trace's last sample, and new scans since
-    the sample before.
+    """Compares the numbers of the candidates with the trace. A candidate has the memory and the
+    swap of its last sample, and the number of pages that were scanned since the sample before.
     """
     lines = [(int(it.split()[0]), it.split()[1:]) for it in text.splitlines()[1:-1]]
     state = state_at(lines, firing["moment_ns"])
@@ -218,14 +230,15 @@ def compare_candidates(firing: Any, text: str) -> None:
 
 
 def check_by_systemd_oomd_from_a_replay(room: Room) -> None:
-    """systemd-oomd's limit, kills and candidates have the numbers of a replay at ticks of a second.
+    """The explanation for systemd-oomd has the limit, kills and candidates that follow from a
+    replay with ticks of one second.
     """
     text, printed = text_of(RUNAWAY), printed_of(room, RUNAWAY)
     found = explained(room, SYSTEMD, RUNAWAY, "systemd-oomd")
     part = found["rulesets"][0]
     shares = {
-        moment: full.get(("/batch", "memory", "avg10"), 0)
-        for moment, full in reports_of(printed).items()
+        time_ns: full.get(("/batch", "memory", "avg10"), 0)
+        for time_ns, full in reports_of(printed).items()
     }
     compare_course(part["groups"][0]["detectors"][0], shares, "/batch")
     fired = [it for it in part["firings"] if it["actions"]]
@@ -238,8 +251,9 @@ def check_by_systemd_oomd_from_a_replay(room: Room) -> None:
 
 
 def kills_below(text: str, printed: str) -> list[tuple[int, Optional[str]]]:
-    """The plain version's decisions for memory pressure. It watches all groups with one limit, so
-    other groups get no pressure.
+    """Returns the time (ns) and the victim of each decision about memory pressure by the reference
+    implementation. The reference implementation applies one limit to all groups, so the pressure of
+    groups other than /batch is first set to 0.
     """
     only = re.sub(r"^(report \d+ (?!/batch memory).* memory\nsome .*\nfull) avg10=\d+\.\d\d",
                   r"\1 avg10=0.00", printed, flags=re.MULTILINE)

@@ -1,6 +1,5 @@
-"""Computes what rules find in a trace, from the text of the trace and of a replay's output alone.
-
-It follows docs/RULES.md and docs/TRACES.md, and uses no code of the tools.
+"""Computes the values of detectors from a trace and from the output of a replay. The computation
+follows docs/RULES.md and docs/TRACES.md, and uses no code of the tools.
 """
 from __future__ import annotations
 
@@ -24,9 +23,9 @@ def covers(patterns: str, path: str) -> bool:
 
 @dataclass
 class Group:
-    """A group since its creation: its last sample (bytes and pages), its preference, the number of
-    its own tasks, its memory at earlier evaluations (newest first), and its scanned pages at the
-    previous evaluation.
+    """A group since its creation. It has the group's last sample (bytes and pages), its preference,
+    the number of its own tasks, its memory (bytes) at earlier evaluations (newest first), and its
+    number of scanned pages at the previous evaluation.
     """
 
     memory: int = 0
@@ -40,9 +39,9 @@ class Group:
 
 @dataclass
 class Look:
-    """An evaluation of the rules: its time (ns), the groups by path, the host's memory, swap and
-    free swap (bytes), and the full averages in hundredths of a percent, by path, resource and
-    average.
+    """The state at an evaluation of the rules: the time (ns), the groups by path, the host's
+    memory, swap and free swap (bytes), and the averages of `full` (hundredths of a percent) by
+    path, resource and average.
     """
 
     moment: int
@@ -70,7 +69,9 @@ class Look:
 
 
 def reports_of(printed: str) -> dict[int, dict[tuple[str, str, str], int]]:
-    """Returns the full averages of a replay's reports, in hundredths of a percent, by time (ns)."""
+    """Returns the averages of `full` in a replay's reports (hundredths of a percent). The first key
+    is the time (ns), and the second is the path, the resource and the average's name.
+    """
     found: dict[int, dict[tuple[str, str, str], int]] = {}
     head: list[str] = []
     for line in printed.splitlines():
@@ -87,7 +88,7 @@ def reports_of(printed: str) -> dict[int, dict[tuple[str, str, str], int]]:
 
 
 class Replayed:
-    """Applies a trace's lines, and stops at each evaluation of the rules."""
+    """Applies the lines of a trace one by one, and stops at each evaluation of the rules."""
 
     def __init__(self, trace: str) -> None:
         self.lines = [line.split() for line in trace.splitlines()[1:]]
@@ -122,30 +123,32 @@ class Replayed:
             self.groups[self.homes.pop(task)].tasks -= 1
 
     def looks(self, printed: str, tick: int, interval: int) -> Iterator[Look]:
-        """Yields the evaluations, for ticks and intervals of these lengths (ns)."""
+        """Yields the state at each evaluation. `tick` is the length of a tick and `interval` the
+        time between evaluations (ns). `printed` is the output of the replay.
+        """
         place = 0
-        for moment, full in sorted(reports_of(printed).items()):
-            if moment // interval == (moment - tick) // interval:
+        for time_ns, full in sorted(reports_of(printed).items()):
+            if time_ns // interval == (time_ns - tick) // interval:
                 continue
-            while place < len(self.lines) and int(self.lines[place][0]) <= moment:
+            while place < len(self.lines) and int(self.lines[place][0]) <= time_ns:
                 self.take(*self.lines[place][1:])
                 place += 1
-            yield Look(moment, self.groups, self.host, full)
+            yield Look(time_ns, self.groups, self.host, full)
             for group in self.groups.values():
                 group.sizes = [group.memory, *group.sizes][:4]
                 group.before = group.scanned
 
 
 class Detector:
-    """A detector, and the values that it has at all evaluations."""
+    """A detector, with its value at each evaluation."""
 
     def __init__(self, plugin: dict[str, Any]) -> None:
         self.name, self.args = plugin["name"], plugin["args"]
         self.rows: list[tuple[int, Optional[float], str, bool]] = []
 
     def take(self, look: Look) -> None:
-        """Adds the detector's greatest value at an evaluation, the group that has it, and whether
-        it is beyond the limit. The detector `exists` has no value.
+        """Appends the detector's greatest value at an evaluation, the group with that value, and
+        whether the value is beyond the limit. The detector `exists` has no value.
         """
         if self.name == "exists":
             return
@@ -182,28 +185,28 @@ class Detector:
         return float(text)
 
     def extreme(self) -> Optional[tuple[float, int, str]]:
-        """Returns the value nearest to the limit or farthest beyond it, the time when it was first
-        reached, and the group that had it; None if there is no value.
+        """Returns the value that came nearest to the limit, or was farthest beyond it, with the
+        time (ns) at which it was first reached and its group. Returns None if there is no value.
         """
         found = [
-            (value, moment, whose) for moment, value, whose, _ in self.rows if value is not None
+            (value, time_ns, whose) for time_ns, value, whose, _ in self.rows if value is not None
         ]
         sign = -1 if self.name == "swap_free" else 1
         return max(found, key=lambda it: (sign * it[0], -it[1])) if found else None
 
     def hold(self) -> int:
-        """Returns the longest time (ns) from the first to the last of consecutive evaluations
-        beyond the limit.
+        """Returns the length (ns) of the longest series of consecutive evaluations at which the
+        value was beyond the limit.
         """
         longest, since = 0, None
-        for moment, _, _, is_above in self.rows:
-            since = (moment if since is None else since) if is_above else None
-            longest = max(longest, moment - since) if since is not None else longest
+        for time_ns, _, _, is_above in self.rows:
+            since = (time_ns if since is None else since) if is_above else None
+            longest = max(longest, time_ns - since) if since is not None else longest
         return longest
 
     def is_close(self) -> bool:
-        """Returns whether a printed value equals the limit. Its digits that aren't printed decide
-        then.
+        """Returns whether a printed value equals the limit. Digits that aren't printed then decide
+        whether the value is beyond the limit.
         """
         return self.name.startswith("pressure") and any(
             value == float(self.args["threshold"]) for _, value, _, _ in self.rows

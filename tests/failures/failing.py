@@ -1,6 +1,6 @@
 #!/usr/bin/env python3
-"""Checks that fail, each in a different way, for the test in this folder. They have a short time
-limit.
+"""Checks that all fail, each in a different way, with a short time limit. The test of the harness
+runs them.
 """
 from __future__ import annotations
 

@@ -1,1 +1,1 @@
-"""The checks of tests/fold: folded traces and recordings, compared with the originals."""
+"""Checks that folded traces and recordings replay like the originals."""

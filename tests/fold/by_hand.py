@@ -1,4 +1,6 @@
-"""Checks of folding on traces whose times are computed by hand, and of the number of joint states.
+"""Checks of folding on traces whose times are computed by hand, and of the number of joint states
+in a folded trace.
+
 A joint state is a set of task states, by group, that hold on a processor at the same time.
 """
 from __future__ import annotations
@@ -12,13 +14,14 @@ from psifold import processor
 from shared.traces import MS, Maker
 
 SECOND = 1000 * MS
-# For a second, two tasks share a processor: they run in turn for 1 ms each, while the other task is
-# ready.
+# For a second, two tasks share a processor. They run alternately for 1 ms each, while the other
+# task is ready.
 IN_TURNS = "psitrace 1 cpus=1\n0 fork 1 / 0\n0 fork 2 / 0\n0 switch 0 1 idle\n" + "".join(
-    f"{moment * MS} switch 0 {2 if moment % 2 else 1} preempt\n" for moment in range(1, 1000)
+    f"{ms * MS} switch 0 {2 if ms % 2 else 1} preempt\n" for ms in range(1, 1000)
 ) + "1000000000 end\n"
-# A task of /a runs for 200 ms while a task of /b is ready. Then the task of /a waits for 300 ms,
-# and the other runs during the first 100 ms. Then /a is removed.
+# A trace in which a task of /a runs for 200 ms while a task of /b is ready. Then the task of /a
+# waits for 300 ms, and the other task runs for the first 100 ms of this time. Finally /a is
+# removed.
 GOES = """psitrace 1 cpus=1
 0 group /a
 0 group /b
@@ -43,8 +46,8 @@ STALL_OF_GOES = (
 
 
 def check_windows_by_hand(program: str) -> None:
-    """Traces in windows of 1 and 2 s are folded as computed by hand. A second of tasks that run in
-    turn is one joint state; and times, samples and a removal stay in their windows.
+    """Traces are folded into windows of 1 and 2 s as computed by hand. A second in which tasks run
+    alternately becomes one joint state. Times, samples and a removal stay in their windows.
     """
     other, fold = folded(IN_TURNS, SECOND)
     counts = fold.counts.states_before, fold.counts.states_after
@@ -55,8 +58,8 @@ def check_windows_by_hand(program: str) -> None:
     for window in (SECOND, 2 * SECOND):
         other, _ = folded(GOES, window)
         must_be("the times", printed(program, other, "stall").decode(), STALL_OF_GOES)
-        kept = [line for line in other.splitlines() if " mem " in line or "group" in line]
-        must_be("what isn't about tasks", kept,
+        lines = [line for line in other.splitlines() if " mem " in line or "group" in line]
+        must_be("what isn't about tasks", lines,
                 [line for line in GOES.splitlines() if " mem " in line or "group" in line])
         after = [line for line in lines_between(other, 500 * MS, 2 * SECOND) if " /a" in line]
         must_be("what is of a group after its removal", after, [])
@@ -64,8 +67,8 @@ def check_windows_by_hand(program: str) -> None:
 
 
 def check_long_quiet(program: str) -> None:
-    """Windows without events add no lines, and the time of states that continue through them
-    counts.
+    """Windows without events add no lines to the folded trace, and the states that continue through
+    them keep their times.
     """
     trace = (
         "psitrace 1 cpus=2\n0 fork 1 / 0\n0 switch 0 1 idle\n0 switch 0 0 iowait\n"
@@ -77,8 +80,8 @@ def check_long_quiet(program: str) -> None:
 
 
 def check_as_many_groups_as_there_may_be(program: str) -> None:
-    """A trace with 1,024 groups, in nested chains whose sums depend on one another, replays like
-    the original when it is folded.
+    """A folded trace with 1,024 groups replays like the original. The groups are in nested chains
+    whose sums depend on one another.
     """
     paths = [f"/{one}" + "/x" * below for one in range(33) for below in range(31)]
     lines = [f"0 group {path}" for path in paths]
@@ -98,13 +101,14 @@ def check_as_many_groups_as_there_may_be(program: str) -> None:
 
 
 def check_how_many_joint_states_there_are(_: str) -> None:
-    """Each window of a processor has at most one joint state more than it has sums, and rounding
-    leaves less than 10 ns of a sum.
+    """In each window of a processor there is at most one joint state more than there are sums, and
+    each sum is off by less than 10 ns. A sum is the time for which a group was in one of its
+    states.
     """
     few_of, most = processor.few_of, 0
 
-    def counted(spent: dict[int, int], sums: Any, left: Any) -> Any:
-        few = few_of(spent, sums, left)
+    def counted(spent: dict[int, int], sums: Any, remainders: Any) -> Any:
+        few = few_of(spent, sums, remainders)
         must(len(few.times) <= sums.size + 1, f"{len(few.times)} joint states of {sums.size} sums")
         must_be("the time of all", sum(few.times.values()), sum(spent.values()))
         return few
@@ -121,7 +125,7 @@ def check_how_many_joint_states_there_are(_: str) -> None:
 
 
 class Busy(Maker):
-    """Makes traces of up to 8 processors with thousands of events at short intervals."""
+    """Makes traces of up to 8 processors, with thousands of events at short intervals."""
 
     TURNS = (2500, 2500)
     FIRST = {

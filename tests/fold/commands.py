@@ -1,5 +1,5 @@
-"""Checks of the tools that fold: reading a recording in slices, compressed pages, arguments and
-faults, and the limit on events.
+"""Checks of psitrace --fold and of `fold`: recordings that are read in slices, compressed pages,
+arguments and faults, and the limit on events.
 """
 from __future__ import annotations
 
@@ -24,9 +24,10 @@ EXAMPLES = os.path.join(TOP, "examples")
 
 
 def check_slices(program: str) -> None:
-    """A recording that is read in many slices, and folded in another process, gives the same trace
-    as in one slice, even if wakeups are put at the times when psi counted them, which may be in the
-    previous slice. The summary's line on wakeups is that of the unfolded trace.
+    """If a recording is read in many slices and folded in another process, the trace is the same as
+    with one slice. This holds even if wakeups are moved to the times at which PSI counted them,
+    which may be in the previous slice. The summary's line about wakeups is the same as without
+    folding.
     """
     for name in ("cg-2", "wakeups"):
         with recording(name) as folder:
@@ -49,8 +50,8 @@ def check_slices(program: str) -> None:
 
 
 def check_pages_that_are_none(_: str) -> None:
-    """A malformed page is reported with its processor's file, whether one process reads all
-    processors or several processes do.
+    """For a malformed page, the message names the file of its processor. This holds with one
+    process for all processors, and with several processes.
     """
     with recording("exec-2") as folder:
         change(folder, "cpu1.raw", lambda pages: pages[:8192] + b"\xff" * 4096 + pages[8192:])
@@ -73,21 +74,25 @@ def here(words: list[str]) -> tuple[int, bytes, str]:
 
 
 def traces_of(there: str) -> list[bytes]:
-    """Returns the traces that psitrace makes of a recording: unfolded, and folded."""
+    """Returns the traces that psitrace makes of a recording: first the unfolded trace, then the
+    folded one.
+    """
     return [tool("psitrace", there, *words).output for words in ((), ("--fold=1",))]
 
 
 def compress_pages(there: str) -> None:
-    """Compresses the pages of a recording of two processors in parts, like the recorder does."""
+    """Compresses the pages of a recording of two processors in parts, as the recorder does during a
+    recording.
+    """
     with tempfile.TemporaryDirectory() as place:
-        made = folder.Folder(f"{place}/made", True)
-        made.open_raw(2)
+        target = folder.Folder(f"{place}/made", True)
+        target.open_raw(2)
         for processor in range(2):
             with open(f"{there}/cpu{processor}.raw", "rb") as file:
                 while pages := file.read(1 << 16):
-                    made.append_pages(processor, pages)
+                    target.append_pages(processor, pages)
             os.unlink(f"{there}/cpu{processor}.raw")
-        finished = made.finish_compressing()
+        finished = target.finish_compressing()
         must(finished is not None and finished[1] and 0 < finished[0] < 60,
              f"it was compressed: {finished}")
         names = os.listdir(f"{place}/made")
@@ -95,12 +100,12 @@ def compress_pages(there: str) -> None:
         must(len(parts) > 8 and not any(name.endswith(".raw") for name in names), f"{parts}")
         for name in parts:
             shutil.move(f"{place}/made/{name}", there)
-        made.close()
+        target.close()
 
 
 def check_pages_that_are_compressed(_: str) -> None:
-    """A recording whose pages were compressed during recording gives the same trace, folded or not;
-    so does a recording whose recorder was killed while it compressed a part.
+    """A recording whose pages were compressed during recording gives the same unfolded and folded
+    traces. The same holds if the recorder was killed while it compressed a part.
     """
     with recording("cg-2") as there:
         wanted = traces_of(there)
@@ -122,10 +127,11 @@ def check_pages_that_are_compressed(_: str) -> None:
 
 
 def check_words_and_faults(_: str) -> None:
-    """Usage errors, inputs that aren't traces, and faulty lines each have their status and message.
+    """Usage errors, inputs that aren't traces, and malformed lines each have their own exit status
+    and message.
     """
     good = text_of(os.path.join(EXAMPLES, "one-wait.trace")).encode()
-    for words, given, status, told in (
+    for words, stdin, status, message in (
         (("-", "--window=1"), good, 0,
          "a replay at ticks of 1 s, or of a multiple, prints what it prints of the trace"),
         (("-",), good, 2, "--window"),
@@ -145,9 +151,9 @@ def check_words_and_faults(_: str) -> None:
         (("-", "--window=1"), good.replace(b"0 switch 0 0 iowait", b"0 wake 1 0"), 2,
          "line 4, '0 wake 1 0'"),
     ):
-        done = tool("fold", *words, given=given)
+        done = tool("fold", *words, stdin=stdin)
         must_be(f"the status of {words}, which said {done.said}", done.status, status)
-        must(told in done.said, f"{words}: {told} isn't in {done.said}")
+        must(message in done.said, f"{words}: {message} isn't in {done.said}")
     with recording("exec-2") as folder:
         must_be("who might be killed, of what isn't folded",
                 tool("psitrace", folder, "--victims=a").status, 2)
@@ -157,7 +163,9 @@ def check_words_and_faults(_: str) -> None:
 
 
 def check_the_limit(_: str) -> None:
-    """A trace has at most the allowed number of events: it ends with the last window that fits."""
+    """A folded trace has at most the allowed number of events: it ends with the last window that
+    fits.
+    """
     for large in (command.LARGE, 0):
         lines = limited(large)
         must(600 < len(lines) <= 901 and re.fullmatch(rb"[1-9][0-9]?000000000 end", lines[-1]),
@@ -165,8 +173,8 @@ def check_the_limit(_: str) -> None:
 
 
 def limited(large: int) -> list[bytes]:
-    """Returns the lines of a trace that is cut at a limit of events. Recordings of `large` bytes or
-    more are folded in another process.
+    """Returns the lines of a folded trace that is cut at a limit of events. Recordings of at least
+    `large` bytes are folded in another process.
     """
     limits = (
         mock.patch.object(folded, "MOST_EVENTS", 900), mock.patch.object(command, "LARGE", large),

@@ -1,5 +1,5 @@
-"""Helpers for checks of folding: folding a trace, comparing replays, and making traces whose tasks
-exist from start to end.
+"""Helpers for the checks of folding: they fold traces, compare replays, and make traces whose
+groups and tasks all exist from start to end.
 """
 from __future__ import annotations
 
@@ -35,26 +35,26 @@ def printed(program: str, trace: str, *words: str) -> bytes:
 def must_replay_alike(
     what: str, program: str, trace: str, other: str, window: int, words: Sequence[str] = ()
 ) -> None:
-    """Fails unless replays of both traces print the same bytes, with ticks of one, two and three
-    windows (ns).
+    """Fails unless replays of both traces print the same bytes, for ticks of one, two and three
+    windows. `window` is in ns.
     """
     for times in (1, 2, 3):
         if window * times <= 60_000 * MS:
-            given = ("replay", f"--tick-ms={window * times // MS}", "--report-s=1", *words)
-            must_print_alike(f"{what}, at {times} windows", printed(program, trace, *given),
-                             printed(program, other, *given))
+            arguments = ("replay", f"--tick-ms={window * times // MS}", "--report-s=1", *words)
+            must_print_alike(f"{what}, at {times} windows", printed(program, trace, *arguments),
+                             printed(program, other, *arguments))
 
 
 def must_print_alike(what: str, wanted: bytes, found: bytes) -> None:
-    """Fails if the outputs differ, with the first line that differs."""
+    """Fails if the outputs differ, and shows the first line that differs."""
     for line, other in zip(wanted.splitlines(), found.splitlines()):
         must_be(what, other, line)
     must_be(f"{what}, how many lines", len(found.splitlines()), len(wanted.splitlines()))
 
 
 class Settled(Maker):
-    """Makes traces in which all groups and tasks exist from the start, so that a victim gets no
-    further task.
+    """Makes traces in which all groups and tasks exist from the start, so that no task is added to
+    a victim later.
     """
 
     FIRST = {**Maker.FIRST, "fork": 0, "move": 0, "group": 0, "rmgroup": 0, "stall": 3, "side": 4}
@@ -70,7 +70,7 @@ class Settled(Maker):
                 self.begin(event)
 
     def begin(self, event: Event) -> None:
-        """Adds an event at time 0."""
+        """Adds an event at time 0 to the trace."""
         self.machine.take(*event)
         self.lines.append(f"0 {' '.join(event)}")
 
@@ -83,7 +83,7 @@ class Settled(Maker):
 
 
 class Wide(Maker):
-    """Makes traces of 1, 16 or 64 processors and up to hundreds of groups."""
+    """Makes traces of 1, 16 or 64 processors with up to hundreds of groups."""
 
     PATHS = tuple(f"/g{one}{below}" for one in range(80) for below in ("", "/a", "/a/b", "/c"))
 
@@ -98,7 +98,9 @@ class Wide(Maker):
 
 
 def window_of(maker: Maker, number: int) -> int:
-    """Returns a window (ns) for a generated trace: one, two or three of its ticks."""
+    """Returns the length (ns) of a window for a generated trace: one, two or three of the trace's
+    ticks.
+    """
     return random.Random(number).choice((1, 1, 2, 3)) * maker.tick
 
 

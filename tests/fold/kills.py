@@ -1,5 +1,5 @@
-"""Compares kills in replays of folded traces with kills in replays of the originals, over random
-traces and recordings, with random rules.
+"""Compares the kills in replays of folded traces with the kills in replays of the originals, for
+random traces and recordings with random rules.
 """
 from __future__ import annotations
 
@@ -23,19 +23,19 @@ from shared.traces import MS, Maker
 
 from .replays import FOLDERS, TEXTS, both_of, both_of_folder, names_of
 
-# The number of random traces that the merge gate compares, and the number of random rules files for
-# each.
+# The number of random traces in the merge gate, and the number of random rules files for each of
+# them.
 TRACES, RULES = 40, 3
-# The largest number of rulesets in a rules file. Rulesets don't affect each other in a replay, so
-# one replay compares many of them.
+# The largest number of rulesets in a rules file. Rulesets are independent of each other, so one
+# replay compares this many rulesets.
 MOST_RULESETS = 64
 SECOND = 1000 * MS
 KILL = re.compile("kill [0-9]+ ruleset=([0-9]+) ")
 
 
 class Found(NamedTuple):
-    """The numbers of random rulesets, of compared replays and of their kill lines; and a line for
-    each difference.
+    """The result of a comparison: the numbers of random rulesets, of compared replays and of kill
+    lines, and a message for each replay that differs.
     """
 
     rulesets: int
@@ -67,14 +67,16 @@ def kills_of(program: str, trace: str, rules: str, tick: int) -> list[str]:
 
 
 def packed(rules: list[list[Any]]) -> Iterator[list[Any]]:
-    """Yields all rulesets in lists of at most MOST_RULESETS."""
+    """Yields the rulesets of all rules files, in lists of at most MOST_RULESETS."""
     rulesets = [ruleset for one in rules for ruleset in one]
     for start in range(0, len(rulesets), MOST_RULESETS):
         yield rulesets[start : start + MOST_RULESETS]
 
 
 def difference(rules: list[Any], wanted: list[str], found: list[str]) -> str:
-    """Returns the first kill line that is only in one of the lists, with its ruleset."""
+    """Returns the first kill line (in the order of the text) that is only in `wanted` or only in
+    `found`, with its ruleset. Returns a message if only the order of the lines differs.
+    """
     lines = sorted({*wanted} ^ {*found})
     kill = KILL.match(lines[0]) if lines else None
     return f"{lines[0]}; ruleset {json.dumps(rules[int(kill[1])])}" if kill else "in another order"
@@ -83,8 +85,8 @@ def difference(rules: list[Any], wanted: list[str], found: list[str]) -> str:
 def compare(
     program: str, what: str, traces: tuple[str, str], rules: list[list[Any]], ticks: list[int]
 ) -> Found:
-    """Compares the kills of a trace with those of the folded trace, with these rules and with ticks
-    of these lengths (ns).
+    """Compares the kills of a trace with the kills of the folded trace, for these rules and these
+    lengths of ticks (ns).
     """
     replays, kills, differing = 0, 0, []
     for rulesets in packed(rules):
@@ -102,7 +104,7 @@ def compare(
 
 
 def total(parts: Iterator[Found]) -> Found:
-    """Returns the sums over all parts."""
+    """Adds up the results of all parts."""
     found = list(parts)
     rulesets, replays = sum(it.rulesets for it in found), sum(it.replays for it in found)
     differing = [line for it in found for line in it.differing]
@@ -110,8 +112,8 @@ def total(parts: Iterator[Found]) -> Found:
 
 
 def random_traces(program: str, numbers: range, count: int) -> Iterator[Found]:
-    """Compares the random traces with these numbers, each with `count` random rules files, with
-    ticks of one and of two windows.
+    """Compares the random traces with these numbers. Each is replayed with `count` random rules
+    files, with ticks of one and of two windows.
     """
     makers: tuple[Callable[[int, int], Maker], ...] = (whatif().Load, Maker, Settled)
     for number in numbers:
@@ -128,7 +130,7 @@ def random_traces(program: str, numbers: range, count: int) -> Iterator[Found]:
 
 
 def patterns_of(trace: str, draw: random.Random) -> str:
-    """Returns a random argument `cgroup` with patterns for some of the trace's groups."""
+    """Returns a random `cgroup` argument, whose patterns match some of the trace's groups."""
     groups = [line.split(" ")[2] for line in trace.splitlines() if " group " in line] or ["/"]
     some = draw.sample(groups, min(len(groups), draw.randint(1, 3)))
     return draw.choice(
@@ -138,7 +140,7 @@ def patterns_of(trace: str, draw: random.Random) -> str:
 
 
 def rules_of(trace: str, draw: random.Random) -> list[Any]:
-    """Returns random rules for the groups of a recording's trace."""
+    """Returns random rules about the groups of a recording's trace."""
     rules = whatif().some_rules(draw)
     for ruleset in rules:
         for group in ruleset["detectors"]:
@@ -153,8 +155,8 @@ def rules_of(trace: str, draw: random.Random) -> list[Any]:
 
 
 def pair_of(name: str) -> tuple[bytes, bytes]:
-    """Returns the trace of a stored recording, of a recording's folder or of a file, and the same
-    trace folded into windows of a second.
+    """Returns a trace, and the same trace folded into windows of one second. `name` is a stored
+    recording, the folder of a recording, or a trace file.
     """
     if os.path.isdir(name):
         return both_of_folder(name)
@@ -162,39 +164,40 @@ def pair_of(name: str) -> tuple[bytes, bytes]:
         return both_of(name)
     with open(name, "rb") as file:
         plain = file.read()
-    return plain, tool("fold", "-", "--window=1", given=plain).output
+    return plain, tool("fold", "-", "--window=1", stdin=plain).output
 
 
 def recordings(
     program: str, names: list[str], count: int, windows: tuple[int, ...] = (1,)
 ) -> Iterator[Found]:
-    """Compares recordings (stored ones, folders or files) that are folded into windows of these
-    lengths (s), each with `count` random rules files, with ticks of one and of two windows.
+    """Compares recordings that are folded into windows of these lengths (s). Each is replayed with
+    `count` random rules files, with ticks of one and of two windows. A name is a stored recording,
+    a folder or a file.
     """
     for name in names:
-        plain, made = pair_of(name)
+        plain, folded_trace = pair_of(name)
         rules, draw = [], random.Random(name)
         for _ in range(count):
             rules.append(rules_of(plain.decode(), draw))
         for window in windows:
             if window > 1:
-                made = tool("fold", "-", f"--window={window}", given=plain).output
+                folded_trace = tool("fold", "-", f"--window={window}", stdin=plain).output
             ticks = [window * SECOND, 2 * window * SECOND]
             what = f"{name}, windows of {window} s"
-            yield compare(program, what, (plain.decode(), made.decode()), rules, ticks)
+            yield compare(program, what, (plain.decode(), folded_trace.decode()), rules, ticks)
 
 
 def stored() -> list[str]:
-    """Returns the names of all stored recordings and ftrace texts."""
+    """Returns the names of all stored recordings, including stored ftrace texts."""
     return [*names_of(FOLDERS), *names_of(TEXTS)]
 
 
-# ---------------------------------------------------------------- checks of the merge gate
+# ---------------------------------------------------------------- checks for the merge gate
 
 
 def check_kills_by_random_rules(program: str) -> None:
-    """Random rules kill the same groups at the same ticks, in random traces and in a recording
-    whose groups are created and removed.
+    """Random rules kill the same groups at the same ticks in a trace and in the folded trace. The
+    traces are random ones and a recording whose groups are created and removed.
     """
     found = total(random_traces(program, range(TRACES), RULES))
     must_be("kill lines that differ", found.differing, [])

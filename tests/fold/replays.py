@@ -1,5 +1,5 @@
-"""Checks that a folded trace replays like the original: for stored recordings, the examples, the
-kernel's cases and generated traces.
+"""Checks that folded traces replay like the originals, for stored recordings, the examples, the
+traces in examples/kernel and generated traces.
 """
 from __future__ import annotations
 
@@ -25,13 +25,13 @@ from psifold.fold import Fold
 from psifold.victims import victims_in
 from shared.traces import MS, RUNAWAY, Maker
 
-# The numbers of generated traces for replays and for `whatif`. The test's arguments may give
-# another number.
+# The numbers of generated traces that are compared by replays and by `whatif`. The test's arguments
+# may change the first number.
 TRACES, WHATIFS = 300, 30
 SECOND = 1000 * MS
 EXAMPLES = os.path.join(TOP, "examples")
 FOLDERS, TEXTS = ".tar.xz", ".ftrace.gz"
-# Recordings with lost events: only the longest interval without loss is converted.
+# Recordings with lost events. Only their longest interval without a loss is converted.
 LOSSY = ("mixlost", "lost-2cpu")
 TRIGGERS = ("--trigger=/ io some 100000 1000000", "--trigger=/ memory full 50000 500000",
             "--trigger=/ cpu some 200000 2000000")
@@ -39,7 +39,9 @@ GROUPS = "*,*/*,*/*/*"
 
 
 def ruleset(resource: str, action: str, args: dict[str, str]) -> dict[str, object]:
-    """Returns a ruleset that runs this action whenever a group stalls for the resource."""
+    """Returns a ruleset that runs the action `action` at each evaluation at which a group has
+    pressure of the resource.
+    """
     stalls = {
         "name": "pressure_above",
         "args": {"cgroup": "/," + GROUPS, "resource": resource, "threshold": "0", "duration": "1"},
@@ -60,7 +62,7 @@ RULESETS = (
 
 @contextlib.contextmanager
 def watching() -> Iterator[tuple[str, ...]]:
-    """Yields the arguments of a replay with rules that kill whenever a group stalls."""
+    """Yields the arguments of a replay whose rules kill whenever a group stalls."""
     with tempfile.NamedTemporaryFile("w", suffix=".json") as file:
         json.dump({"rulesets": RULESETS}, file)
         file.flush()
@@ -68,12 +70,12 @@ def watching() -> Iterator[tuple[str, ...]]:
 
 
 def names_of(suffix: str) -> list[str]:
-    """Returns the names of the stored recordings whose files have this suffix."""
+    """Returns the names of all stored recordings whose file names have this suffix."""
     return sorted(name[: -len(suffix)] for name in os.listdir(STORED) if name.endswith(suffix))
 
 
 def both_of(name: str) -> tuple[bytes, bytes]:
-    """Returns the trace of a stored recording and the folded trace, both with triggers."""
+    """Returns the trace of a stored recording and the folded trace. Both have triggers."""
     if name in names_of(FOLDERS):
         with recording(name) as folder:
             return both_of_folder(folder, name in LOSSY)
@@ -81,32 +83,35 @@ def both_of(name: str) -> tuple[bytes, bytes]:
 
 
 def both_of_folder(folder: str, is_lossy: bool = False) -> tuple[bytes, bytes]:
-    """Returns the trace of a recording's folder and the folded trace, both with triggers."""
+    """Returns the trace of a recording in a folder and the folded trace. Both have triggers."""
     return both_by([folder], is_lossy)
 
 
-def both_by(source: list[str], is_lossy: bool, given: bytes = b"") -> tuple[bytes, bytes]:
-    """Returns the trace that psitrace makes of a source and the folded trace, both with triggers.
+def both_by(source: list[str], is_lossy: bool, stdin: bytes = b"") -> tuple[bytes, bytes]:
+    """Returns the trace that psitrace makes of a source, and the folded trace. Both have triggers.
     """
     words = [*source, *TRIGGERS, *(["--force"] if is_lossy else [])]
-    plain, made = (tool("psitrace", *words, *more, given=given) for more in ((), ("--fold=1",)))
+    plain, folded_trace = (tool("psitrace", *words, *more, stdin=stdin)
+                           for more in ((), ("--fold=1",)))
     status = 3 if is_lossy else 0
-    must_be(f"the statuses of {' '.join(words)}, of which was said {made.said}",
-            (plain.status, made.status), (status, status))
-    return plain.output, made.output
+    must_be(f"the statuses of {' '.join(words)}, of which was said {folded_trace.said}",
+            (plain.status, folded_trace.status), (status, status))
+    return plain.output, folded_trace.output
 
 
 def check_recordings(program: str) -> None:
-    """psitrace folds each stored recording like `fold` folds its trace, and both traces replay
-    alike, with triggers and with rules.
+    """For each stored recording, `psitrace --fold` writes the same trace that `fold` writes for the
+    unfolded trace. The folded and unfolded traces replay alike, with triggers and with rules.
     """
     signals = kills = 0
     for name in names_of(FOLDERS) + names_of(TEXTS):
-        plain, made = both_of(name)
-        must_be(f"{name}, by both tools", tool("fold", "-", "--window=1", given=plain).output, made)
-        accepted(program, made)
-        must(len(made) * 4 < len(plain), f"{name} is shorter: {len(plain)} bytes to {len(made)}")
-        trace, other = plain.decode(), made.decode()
+        plain, folded_trace = both_of(name)
+        must_be(f"{name}, by both tools", tool("fold", "-", "--window=1", stdin=plain).output,
+                folded_trace)
+        accepted(program, folded_trace)
+        must(len(folded_trace) * 4 < len(plain),
+             f"{name} is shorter: {len(plain)} bytes to {len(folded_trace)}")
+        trace, other = plain.decode(), folded_trace.decode()
         with watching() as words:
             must_replay_alike(name, program, trace, other, SECOND, words)
             found = printed(program, other, "replay", "--tick-ms=1000", *words)
@@ -115,8 +120,8 @@ def check_recordings(program: str) -> None:
 
 
 def check_examples_and_kernel_cases(program: str) -> None:
-    """Each folded trace replays like the original, at the tick length in its options file or else
-    at two seconds. The runaway is replayed with its rules.
+    """Each folded example replays like the original. The tick length is that in the trace's options
+    file, or two seconds if there is no such file. The example `runaway` is replayed with its rules.
     """
     for name in [*files_of(EXAMPLES), *files_of(os.path.join(EXAMPLES, "kernel"))]:
         options = text_of(name.replace(".trace", ".opts")) if os.path.exists(
@@ -129,19 +134,19 @@ def check_examples_and_kernel_cases(program: str) -> None:
                           RUNAWAY if "runaway" in name else ())
 
 
-# ---------------------------------------------------------------- generated
+# ---------------------------------------------------------------- generated traces
 
 
 def is_near_whole(fold: Fold) -> bool:
-    """Returns whether rounding left a remainder of a sum, so that a total may be rounded to another
-    whole us.
+    """Returns whether rounding left a remainder in a sum of time. A total may then be rounded to a
+    different microsecond.
     """
     return any(fold.check.shortfalls.values())
 
 
 def check_generated_traces(program: str) -> None:
-    """Generated traces replay like their folded traces, with rules. If rounding left no remainder,
-    the times at the end are equal too.
+    """Folded traces replay like the generated originals, with rules. If rounding left no remainder,
+    `stall` also prints the same times for both.
     """
     for number in range(TRACES):
         version = 1 + number % 2
@@ -158,8 +163,8 @@ def check_generated_traces(program: str) -> None:
 
 
 def check_kills_that_happen(program: str) -> None:
-    """`whatif` prints the same for a trace and for the folded trace, if folding is given the
-    possible victims: the groups that the actions of the rules match.
+    """`whatif` prints the same for a trace and for the folded trace, if `fold` knows all possible
+    victims: the groups that the actions of the rules match.
     """
     loader = SourceFileLoader("whatif", os.path.join(TOP, "tests", "whatif", "test"))
     spec = spec_from_loader("whatif", loader)

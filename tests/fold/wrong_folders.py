@@ -1,5 +1,6 @@
-"""Checks that wrong code for folding is detected: each window is replayed before it is written, and
-each wrong version here differs from the right code in one way.
+"""Checks that faults in the folding code are detected. The code replays each window before it
+writes the window. Each check replaces a function of the code by a wrong version, which differs from
+the right one in one way.
 """
 from __future__ import annotations
 
@@ -20,18 +21,16 @@ SECOND = 1000 * MS
 
 
 def wrong_lines(change: Callable[[list[Line]], list[Line]]) -> Callable[[Any], Any]:
-    """Returns a function that wraps `Writer.write`, and applies `change` to the lines that it
-    returns.
-    """
+    """Returns a wrapper for `Writer.write` that applies `change` to the returned lines."""
 
     def wrap(write: Any) -> Any:
-        return lambda self, *given: change(write(self, *given))
+        return lambda self, *arguments: change(write(self, *arguments))
 
     return wrap
 
 
 def without_first(verb: str) -> Callable[[list[Line]], list[Line]]:
-    """Returns a change that leaves out the first line with this verb."""
+    """Returns a function that removes the first line with this verb."""
 
     def change(lines: list[Line]) -> list[Line]:
         place = next((place for place, (_, words) in enumerate(lines) if words.startswith(verb)),
@@ -42,31 +41,32 @@ def without_first(verb: str) -> Callable[[list[Line]], list[Line]]:
 
 
 def us_later(lines: list[Line]) -> list[Line]:
-    """Moves lines in the later half of the window 1 us later, except lines at the edge of a window.
+    """Moves the lines in the second half of a window to a time 1 us later, except lines at the
+    window's edges.
     """
     middle = lines[len(lines) // 2][0] if lines else 0
     return [
-        (moment + 1000 if moment >= middle and moment % SECOND else moment, words)
-        for moment, words in lines
+        (time_ns + 1000 if time_ns >= middle and time_ns % SECOND else time_ns, words)
+        for time_ns, words in lines
     ]
 
 
 def elsewhere(lines: list[Line]) -> list[Line]:
-    """Moves the tasks and interrupts of processor 0 to processor 1."""
+    """Moves all tasks and interrupts of processor 0 to processor 1."""
     return [
-        (moment,
+        (time_ns,
          re.sub(r"^(switch|irq) 0 ", r"\1 1 ", re.sub(r"^((?:wake|fork) .*) 0$", r"\1 1", words)))
-        for moment, words in lines
+        for time_ns, words in lines
     ]
 
 
 def state_lost(few: Any) -> Any:
-    """Wraps the function that chooses joint states: the shortest state is dropped, and the longest
-    gets its time.
+    """Wraps the function that chooses joint states. The wrapper drops the shortest state and adds
+    its time to the longest.
     """
 
-    def change(*given: Any) -> Any:
-        found = few(*given)
+    def change(*arguments: Any) -> Any:
+        found = few(*arguments)
         if len(found.times) > 2:
             shortest, longest = (
                 choose(found.times, key=found.times.__getitem__) for choose in (min, max)
@@ -78,7 +78,7 @@ def state_lost(few: Any) -> Any:
 
 
 def other_kind(joint_state: Any) -> Any:
-    """Wraps `joint_state`, so that tasks that wait for IO count as ready."""
+    """Wraps `joint_state`. In the wrapper, tasks that wait for IO count as ready."""
     swap = {Kind.WAITING: Kind.READY}
     return lambda self, state: frozenset(
         Element(it.path, swap.get(it.kind, it.kind)) for it in joint_state(self, state)
@@ -86,15 +86,15 @@ def other_kind(joint_state: Any) -> Any:
 
 
 def early(write: Any) -> Any:
-    """Wraps `Writer.write`, so that it begins with any joint state, and writes lines that belong 1
-    ns after a window's start at the start.
+    """Wraps `Writer.write`. The wrapper ignores the joint state that must come first, and moves
+    lines from 1 ns after a window's start to the start.
     """
 
     def change(
         self: Any, start: int, durations: Any, interrupts: Any = (), present: Any = None
     ) -> list[Line]:
         lines: list[Line] = write(self, start, durations, interrupts)
-        return [(start if moment == start + 1 else moment, words) for moment, words in lines]
+        return [(start if time_ns == start + 1 else time_ns, words) for time_ns, words in lines]
 
     return change
 
@@ -144,10 +144,12 @@ WRONGED = """psitrace 2 cpus=2
 
 
 def moved(lines_of: Any) -> Any:
-    """Wraps `lines_of`, so that samples are at the end of the window's lines and a second later."""
+    """Wraps `lines_of`. The wrapper moves memory samples to the end of the window's lines, and
+    their times by one second.
+    """
 
-    def change(*given: Any) -> list[str]:
-        lines: list[str] = lines_of(*given)
+    def change(*arguments: Any) -> list[str]:
+        lines: list[str] = lines_of(*arguments)
         samples = [line for line in lines if " mem " in line]
         return [
             *(line for line in lines if line not in samples),
@@ -158,12 +160,12 @@ def moved(lines_of: Any) -> Any:
 
 
 def lost(lines_of: Any) -> Any:
-    """Wraps `lines_of`, so that it drops the samples."""
-    return lambda *given: [line for line in lines_of(*given) if " mem " not in line]
+    """Wraps `lines_of`. The wrapper drops memory samples."""
+    return lambda *arguments: [line for line in lines_of(*arguments) if " mem " not in line]
 
 
 def check_wrong_folders(program: str) -> None:
-    """Each wrong version is detected before its window is written, and the right code is accepted.
+    """Each wrong version is detected before its window is written. The right version is accepted.
     """
     must_replay_alike("a right folder", program, WRONGED, folded(WRONGED, SECOND)[0], SECOND)
     for what, place, name, wrong in WRONG:
@@ -173,9 +175,9 @@ def check_wrong_folders(program: str) -> None:
         try:
             fold.Fold(2, SECOND, written.extend).take(WRONGED.splitlines()[1:])
             raise Wrong(f"{what}, and nobody finds it: {written}")
-        except Different as told:
-            must("differs" in str(told) or "can't stand" in str(told) or "removed" in str(told),
-                 f"{what}: {told}")
+        except Different as error:
+            must("differs" in str(error) or "can't stand" in str(error) or "removed" in str(error),
+                 f"{what}: {error}")
         finally:
             setattr(place, name, right)
         must(not any(line.endswith(" end") for line in written), f"{what}: nothing more is written")

@@ -1,1 +1,1 @@
-"""Checks of the launcher ./psi_oomd, with its copies and the stubs that replace rt."""
+"""Checks of the launcher ./psi_oomd. They use copies of the launcher and stubs in place of `rt`."""

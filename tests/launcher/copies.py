@@ -1,4 +1,4 @@
-"""Makes copies of the launcher, with stubs in place of rt and of the programs."""
+"""Makes copies of the launcher, with stubs in place of `rt` and of the programs."""
 from __future__ import annotations
 
 import os
@@ -10,7 +10,7 @@ from collections.abc import Iterator
 from harness import must, must_be
 from shared.program import TOP
 
-# Each program, with the page of docs/ that lists its arguments.
+# Each program, with the page of docs/ that documents its arguments.
 PAGES = {"psi_oomd": "COMMANDS.md", "psi_observe": "OBSERVERS.md", "psi_convert": "CONVERT.md"}
 PROGRAMS = tuple(PAGES)
 TOOLS = (
@@ -20,11 +20,11 @@ TOOLS = (
     ),
     *("rm", "sed", "sh", "sha256sum", "sleep", "sort", "tail", "touch", "wc", "xargs"),
 )
-# The stub of a program prints its arguments, one per line, and exits with status 7.
+# A stub of the program. It prints its arguments, one per line, and exits with status 7.
 PROGRAM = "#!/bin/sh\nprintf '<%s>\\n' \"$@\"\nexit 7\n"
-# The stub of rt: `rt try` writes its folder and its arguments, with each file's content in place of
-# its path, then SAID, and exits with STATUS; `rt ci` writes the files that it finds to SEEN, makes
-# a program from MADE, and exits likewise; `rt version` writes KIT; anything else fails.
+# A stub of `rt`. `rt try` prints its folder and its arguments, with the content of each file in
+# place of its path. `rt ci` writes the names of the files it finds to SEEN, and makes a program
+# from MADE. Both print SAID and exit with STATUS. `rt version` prints KIT. Other commands fail.
 RT = """#!/bin/sh
 case $1 in
 try)
@@ -69,15 +69,15 @@ FIRST_BUILD = (
     r"\((?:20 to 40 minutes the first time on four processors|40 to 80 minutes the first time on "
     r"\d processors)\)"
 )
-# The progress of a build, at the end of each of its lines.
+# The progress of a build, which is printed at the end of each line.
 PROGRESS = r" \(\d+ of about \d+ minutes\)"
 AVOIDED = "; ./{0} --try runs it unproved in a minute or two, and {1}=FILE names a built one"
 BUILDS = "what is proved is built by ./{0} without --try"
 
 
 class Copy:
-    """A launcher's copy in its own folder, with its own PATH, which has git only on request and
-    never rt.
+    """A copy of the launcher in its own folder. Its PATH contains git only if `has_git`, and at
+    first no `rt`.
     """
 
     def __init__(self, room: str, name: str, has_git: bool = True) -> None:
@@ -96,20 +96,20 @@ class Copy:
                 os.symlink(found, os.path.join(self.path, tool))
 
     def run(
-        self, *words: str, place: str = "/", given: str = "", **more: str
+        self, *words: str, place: str = "/", stdin: str = "", **more: str
     ) -> tuple[int, str, str]:
-        """Runs the launcher in the folder `place`, with the input `given` and the variables `more`.
-        Returns the exit status, standard output and standard error.
+        """Runs the launcher in the folder `place`, with this standard input and these environment
+        variables. Returns the exit status, standard output and standard error.
         """
         words = (os.path.join(self.top, self.name), *words)
         environment = {"PATH": self.path, **more}
-        done = subprocess.run(words, cwd=place, env=environment, input=given, capture_output=True,
+        done = subprocess.run(words, cwd=place, env=environment, input=stdin, capture_output=True,
                               text=True)
         return done.returncode, done.stdout, done.stderr
 
     def give_rt(self) -> str:
-        """Puts the stub of rt into PATH, and a crate at the path that the launcher expects. Returns
-        a folder to run in.
+        """Puts the stub of `rt` into PATH, and makes a crate at the path that the launcher expects.
+        Returns a new working folder.
         """
         with open(os.path.join(self.path, "rt"), "w", encoding="utf-8") as file:
             file.write(RT)
@@ -120,8 +120,8 @@ class Copy:
         return place
 
     def give_sources(self) -> str:
-        """Puts the stub of rt into PATH, and three crates, one of which the program doesn't use.
-        Returns a folder for its work.
+        """Puts the stub of `rt` into PATH, and writes three crates. One of the crates isn't used by
+        the program. Returns a new working folder.
         """
         place, main = self.give_rt(), f"{self.name}_main"
         texts = {
@@ -139,9 +139,7 @@ class Copy:
         return place
 
     def other(self, room: str) -> str:
-        """Writes a stub of the program, as `give_program` does, to another path, and returns the
-        path.
-        """
+        """Writes a stub of the program to another path, and returns the path."""
         place = os.path.join(room, f"a {self.name}")
         with open(place, "w", encoding="utf-8") as file:
             file.write(PROGRAM)
@@ -149,14 +147,14 @@ class Copy:
         return place
 
     def trial(self, *words: str, **more: str) -> tuple[list[str], list[str]]:
-        """Returns what `rt try` gets for these arguments: the files with their contents, and the
-        program's arguments.
+        """Returns what `rt try` should print for these arguments: the files with their contents,
+        and the program's arguments.
         """
         status, said, error = self.run(
             "--try", *words, SAID="own words\n" + ENDED.format(3), STATUS="3", **more
         )
-        told = "".join(f"{self.name}: {line}\n" for line in (WARNED, BUILDS.format(self.name)))
-        must_be(f"--try {words}", (status, error), (3, f"{told}own words\n"))
+        message = "".join(f"{self.name}: {line}\n" for line in (WARNED, BUILDS.format(self.name)))
+        must_be(f"--try {words}", (status, error), (3, f"{message}own words\n"))
         lines = said.splitlines()
         must_be(f"where the trial of {words} runs", lines[0], f"in {self.name}_main")
         end = lines.index("<-->")
@@ -164,7 +162,7 @@ class Copy:
         return [line[1:-1] for line in lines[2:end:2]], [line[1:-1] for line in lines[end + 1 :]]
 
     def git(self, *words: str) -> str:
-        """Returns the output of git in the copy's folder, with a fixed author."""
+        """Runs git in the copy's folder with a fixed author, and returns the output."""
         author = [
             word for name in ("user.name=a", "user.email=a@example.org") for word in ("-c", name)
         ]
@@ -173,8 +171,8 @@ class Copy:
         ).stdout.strip()
 
     def give_program(self, more: str = ":") -> None:
-        """Writes a stub of the program, newer than its sources, to the path that the launcher
-        expects. The stub runs the shell commands `more` before it ends.
+        """Writes a stub of the program to the path that the launcher expects. The stub is newer
+        than the sources, and runs the shell commands `more` before it ends.
         """
         with open(os.path.join(self.top, "crates.txt"), "w", encoding="utf-8") as file:
             file.write(f"{self.name}_main:\n")
@@ -185,12 +183,12 @@ class Copy:
         os.utime(os.path.join(self.top, "crates.txt"), (0, 0))
 
     def program(self) -> str:
-        """Returns the path at which the launcher expects its program."""
+        """Returns the path at which the launcher expects the built program."""
         return os.path.join(self.top, "crates", f"{self.name}_main", "out", f"{self.name}_main")
 
 
 def must_match(what: str, lines: list[str], patterns: list[str]) -> None:
-    """Raises unless each line matches the pattern at its position."""
+    """Raises unless the lines match the patterns one by one."""
     is_right = len(lines) == len(patterns) and all(
         re.fullmatch(pattern, line) for pattern, line in zip(patterns, lines)
     )
@@ -203,9 +201,9 @@ def copies(room: str, has_git: bool = True) -> Iterator[Copy]:
         yield Copy(room, name, has_git)
 
 
-# Valid arguments of each program. The trace comes from standard input.
+# Valid arguments of each program, which read the trace from standard input.
 RIGHT = {
     "psi_oomd": ("check", "-"), "psi_observe": ("-", "1", "/"), "psi_convert": ("events", "-", "-")
 }
-# All required arguments of `gen` except `--events`.
+# The required arguments of `gen`, without `--events`.
 GEN = "--seed 1 --cpus 1 --groups 1".split()

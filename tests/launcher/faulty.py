@@ -6,8 +6,8 @@ import os
 from harness import must_be
 from launcher.copies import GEN, Copy
 
-# Faulty arguments of psi_oomd, its exit status, and its message. They run in a folder with a trace
-# `t`, a recording `r` and a folder `d`.
+# Faulty arguments of psi_oomd, with the exit status and the message. The command runs in a folder
+# with a trace `t`, a recording `r` and a folder `d`.
 FAULTY = (
     ((), 1, "which command? ./psi_oomd --help has all of them"),
     (("repaly", "t"), 1, "unknown command repaly: did you mean replay?"),
@@ -48,7 +48,7 @@ FAULTLESS = (
     ("import", "t", "--cpus", "0"), ("rules", "t"),
     ("replay", "--live", "none", "t"), ("rules", "-", "--drop-in", "t"),
 )  # fmt: skip
-# Invalid values of options, with the hint that the launcher adds to the program's own message.
+# Invalid values of options, with the hint that the launcher prints after the program's own message.
 VALUES = (
     (("replay", "-", "--rules", "t", "--tick-ms=x"),
      "--tick-ms takes a whole number such as 2, not 'x'"),
@@ -74,8 +74,8 @@ def make_files(place: str) -> None:
 
 
 def check_faulty_words(room: str) -> None:
-    """Usage errors are reported at once, with the program's status. If the program is built, the
-    program's own message comes first.
+    """Usage errors are reported without a build, with the program's exit status. If the program is
+    already built, its own message comes first.
     """
     copy, place = Copy(room, "psi_oomd"), os.path.join(room, "files")
     make_files(place)
@@ -105,13 +105,13 @@ def check_faulty_words(room: str) -> None:
 
 
 def must_judge_pages(copy: Copy, place: str) -> None:
-    """Usage errors of psi_convert (the command, the table, the files of pages) are reported at
-    once.
+    """Usage errors of psi_convert in the command, the table or the page files are reported without
+    a build.
     """
     words = "psi_convert takes the word events and names: TABLE PAGES.."
     folder = "names count from the folder in which the command runs"
     option = "psi_convert has no option --raw: a name that begins with - is written as ./--raw"
-    for given, status, hint in (
+    for arguments, status, hint in (
         ((), 1, words),
         (("events", "t"), 1, words),
         (("trace", "t", "t"), 1, words),
@@ -119,11 +119,12 @@ def must_judge_pages(copy: Copy, place: str) -> None:
         (("events", "t", "t", "none"), 4, f"no file of pages none: {folder}"),
         (("events", "t", "--raw"), 1, option),
     ):
-        must_be(f"{given}", copy.run(*given, place=place), (status, "", f"psi_convert: {hint}\n"))
+        must_be(f"{arguments}", copy.run(*arguments, place=place),
+                (status, "", f"psi_convert: {hint}\n"))
     must_be("right words", copy.run("events", "t", "-", place=place)[0], 70)
 
 
-# Files that aren't traces, and the message about each.
+# Files that aren't traces, with the message for each.
 NO_TRACES = {
     "t.gz": (b"\x1f\x8b\x08\0\0\0", "compressed by gzip: gunzip -c t.gz > FILE"),
     "t.xz": (b"\xfd7zXZ\0\0", "compressed by xz: xz -dc t.xz > FILE"),
@@ -149,8 +150,8 @@ NO_TRACES = {
 
 
 def check_what_is_no_trace(room: str) -> None:
-    """Once the program has rejected a file, the launcher says what kind of file it is; without a
-    built program the launcher says nothing.
+    """If the program rejects a file, the launcher says what kind of file it is. Without a built
+    program the launcher says nothing about the file.
     """
     copy, place = Copy(room, "psi_oomd"), os.path.join(room, "files")
     os.makedirs(place)

@@ -1,4 +1,6 @@
-"""Checks of --try: which files rt gets, and which program is stored."""
+"""Checks of the launcher's option --try: which files it passes to `rt`, and which program it
+stores.
+"""
 from __future__ import annotations
 
 import os
@@ -12,8 +14,8 @@ from launcher.faulty import make_files
 
 
 def check_what_a_trial_is_handed(room: str) -> None:
-    """`--try` passes to rt the files that the program would read, and no other argument that
-    happens to be a file.
+    """`--try` passes to `rt` exactly the files that the program reads. Another argument isn't
+    treated as a file, even if a file with that name exists.
     """
     copy = Copy(room, "psi_oomd")
     place = copy.give_rt()
@@ -42,7 +44,7 @@ def check_what_a_trial_is_handed(room: str) -> None:
         (("import", "-", "--cpus", "2"), ["given text"], ["import", "given-1", "--cpus", "2"]),
     )
     for words, files, program in trials:
-        found, rest = copy.trial(*words, place=place, given="given text", TMPDIR=place)
+        found, rest = copy.trial(*words, place=place, stdin="given text", TMPDIR=place)
         must_be(f"the words of the trial of {words}", rest, program)
         wanted = {f"given-{number}={text}" for number, text in enumerate(files, 1)}
         must_be(f"the files of the trial of {words}", set(found), wanted)
@@ -105,7 +107,7 @@ def check_a_trial_without_an_answer(room: str) -> None:
         must_be("--try --version", copy.run("--try", "--version")[0], 0)
 
 
-# The stub of the program that rt links: like psi_oomd, it rejects a run without arguments and
+# A stub of the program that `rt` links. Like psi_oomd, it rejects a run without arguments and
 # accepts a trace.
 LINKED = """#!/bin/sh
 case $# in 0) echo 'usage: psi_oomd stall or check' >&2; exit 1 ;; esac
@@ -116,15 +118,15 @@ exit 7
 
 
 def run_kept(copy: Copy, cache: str, *words: str, **more: str) -> tuple[int, str, str]:
-    """Runs `--try` with this cache folder. Returns the exit status, standard output and standard
-    error.
+    """Runs the launcher with `--try` and this cache folder. Returns the exit status, standard
+    output and standard error.
     """
     return copy.run("--try", *words, XDG_CACHE_HOME=cache, **more)
 
 
 def check_a_trial_that_is_kept(room: str) -> None:
-    """The program that rt links for `--try` is stored under a checksum of its sources, and later
-    runs need no rt.
+    """The program that `rt` links for `--try` is stored under a checksum of its sources. Later runs
+    need no `rt`.
     """
     copy = Copy(room, "psi_oomd")
     place = copy.give_sources()
@@ -146,15 +148,17 @@ def check_a_trial_that_is_kept(room: str) -> None:
     os.unlink(os.path.join(copy.path, "rt"))
     must_be("the next run", run_kept(copy, cache, *words, place=place), (7, printed, again))
     folder = os.path.join(cache, "psi-oomd")
-    kept = [os.path.join(folder, it) for it in os.listdir(folder)]
+    programs = [os.path.join(folder, it) for it in os.listdir(folder)]
     must_be("what is kept",
-            [(os.stat(it).st_mode & 0o777, it.endswith("-unproved")) for it in kept],
+            [(os.stat(it).st_mode & 0o777, it.endswith("-unproved")) for it in programs],
             [(0o700, True)])
-    must_be("where it is", run_kept(copy, cache, "--build"), (0, f"{kept[0]}\n", ""))
-    must_be("as the variable names it", copy.run(*words, place=place, PSI_OOMD=kept[0]),
+    must_be("where it is", run_kept(copy, cache, "--build"), (0, f"{programs[0]}\n", ""))
+    must_be("as the variable names it", copy.run(*words, place=place, PSI_OOMD=programs[0]),
             (7, printed, ""))
-    unproved = f"psi_oomd of no known commit: {kept[0]}, an unproved build, which PSI_OOMD names\n"
-    must_be("its version", copy.run("--version", PSI_OOMD=kept[0]), (0, unproved, ""))
+    unproved = (
+        f"psi_oomd of no known commit: {programs[0]}, an unproved build, which PSI_OOMD names\n"
+    )
+    must_be("its version", copy.run("--version", PSI_OOMD=programs[0]), (0, unproved, ""))
     pathlib.Path(copy.top, "crates", "low", "src", "lib.rt").write_text("changed", encoding="utf-8")
     must_be("of other sources there is none", run_kept(copy, cache, *words, place=place)[:2],
             (70, ""))

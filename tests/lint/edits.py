@@ -1,5 +1,5 @@
-"""Checks of lint on randomly changed rules files: its corrections, and whether psi_oomd accepts
-them.
+"""Checks of the corrections that lint makes in randomly changed rules files. psi_oomd must accept
+the corrected files.
 """
 from __future__ import annotations
 
@@ -33,8 +33,8 @@ VALUES: tuple[object, ...] = (
 
 
 def check_agreement_with_the_program(room: Room) -> None:
-    """For argument values of all forms, lint reports an error exactly if psi_oomd rejects the file,
-    and psi_oomd accepts what --fix writes.
+    """For argument values of all forms, lint reports an error if and only if psi_oomd rejects the
+    file. psi_oomd accepts the file that --fix writes.
     """
     for plugin, args in DEFAULTS.items():
         if plugin in ("memory_reclaim", "kill_by_pg_scan", "pressure_above"):
@@ -56,8 +56,8 @@ def check_agreement_with_the_program(room: Room) -> None:
 
 
 def check_any_edit(room: Room) -> None:
-    """If parts of a file are cut out or doubled, lint is silent only if psi_oomd accepts the file.
-    Running --fix twice gives the result of running it once.
+    """If parts of a rules file are removed or repeated, lint reports nothing only if psi_oomd
+    accepts the file. A second run of --fix changes nothing.
     """
     drawn = random.Random(43)
     with open(RUNAWAY_RULES, "rb") as file:
@@ -99,17 +99,17 @@ def check_the_program_has_the_last_word(room: Room) -> None:
             ),
         ),
     ]
-    for rulesets, told in cases:
+    for rulesets, message in cases:
         text = json.dumps({"rulesets": rulesets})
         found = lint(room, text)
-        must(found.status == 1 and found.output.startswith(f"rules.json: {told}"),
-             f"{told}: {found}")
+        must(found.status == 1 and found.output.startswith(f"rules.json: {message}"),
+             f"{message}: {found}")
         fixed = lint(room, text, "--fix")
         must_be("--fix", (fixed.status, fixed.output), (2, ""))
 
 
 def check_other_files_of_rules(room: Room) -> None:
-    """A misspelt `rulesets` is corrected, and a missing file or program is reported."""
+    """A misspelt key `rulesets` is corrected. A missing file or program is reported."""
     group = ["g", {"name": "exists", "args": {"cgroup": "a"}}]
     ruleset: dict[str, object] = {"name": "r", "detectors": [group], "actions": []}
     for word in ("ruleset", "rulset"):

@@ -1,4 +1,4 @@
-"""Runs tools/rules lint, and makes the rules files that lint reads."""
+"""Runs tools/rules lint, and makes rules files for these runs."""
 from __future__ import annotations
 
 import json
@@ -27,7 +27,9 @@ DEFAULTS: dict[str, dict[str, str]] = {
 
 
 def rules_of(plugin: str, args: Mapping[str, object], **more: object) -> str:
-    """Returns a rules file with this plugin alone. `more` adds keys to the ruleset."""
+    """Returns a rules file whose only plugin is `plugin` with the arguments `args`. `more` adds
+    keys to the ruleset.
+    """
     it = {"name": plugin, "args": args}
     is_action = plugin.startswith("kill_")
     detectors = ["g", {"name": "exists", "args": {"cgroup": "a"}} if is_action else it]
@@ -45,5 +47,5 @@ def lint(room: Room, text: str | bytes, *words: str) -> Done:
 def is_taken(room: Room, text: str | bytes) -> bool:
     """Returns whether psi_oomd accepts this rules file."""
     return room.run(
-        "psi_oomd", "replay", "-", "--rules", room.file("taken.json", text), given=EMPTY
+        "psi_oomd", "replay", "-", "--rules", room.file("taken.json", text), stdin=EMPTY
     ).status == 0

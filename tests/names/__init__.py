@@ -1,1 +1,1 @@
-"""Checks of names of processes, names of containers and times of day."""
+"""Checks of process names, container names and times of day."""

@@ -12,8 +12,8 @@ from psinames.clock import in_zone, trace_time, time_in, wall_text, zone_name
 from psinames.groups import GroupNames
 from psirec.containers import names_in
 
-# For a trace of an hour: its start, a time of day within it, and that time in seconds from the
-# start.
+# Cases for a trace of an hour: the start of the trace, a time of day, and that time in seconds
+# after the start.
 TIMES = (
     ("2026-11-28T13:58:12.5Z", "14:03", 287.5),
     ("2026-11-28T13:58:12.5Z", "14:03:10.25", 297.75),
@@ -32,7 +32,7 @@ MALFORMED = ("24:00", "14:60", "14:03:60", "14", "1e3", "14:3", "2026-11-28T14:0
 
 
 def said_by(call: object, *words: object) -> str:
-    """Returns the message of the error that a call raises; empty if it raises none."""
+    """Returns the message of the Fault that a call raises, or '' if it raises none."""
     try:
         call(*words)  # type: ignore[operator]
     except Fault as fault:
@@ -41,7 +41,9 @@ def said_by(call: object, *words: object) -> str:
 
 
 def check_times_of_day(_: Room) -> None:
-    """A time of day means the first such time after the trace's start, in the trace's time zone."""
+    """A time of day refers to its first occurrence after the trace's start, in the trace's time
+    zone.
+    """
     for start, word, wanted in TIMES:
         must_be(f"{word} in a trace from {start}",
                 time_in(trace_time(word), wall_time(start), 3600 * SECOND, "--at"), wanted * SECOND)
@@ -61,7 +63,7 @@ def check_times_of_day(_: Room) -> None:
 
 
 def check_zones(_: Room) -> None:
-    """Times of day may be in another time zone, with its daylight saving time."""
+    """A time of day may be given in another time zone, with daylight saving time."""
     for start, zone, wanted in (
         ("2026-11-28T13:58:12Z", "+01:00", "2026-11-28T14:58:12+01:00"),
         ("2026-11-28T13:58:12.5Z", "Europe/Berlin", "2026-11-28T14:58:12.5+01:00"),
@@ -120,7 +122,8 @@ def check_formats_of_containers(_: Room) -> None:
 
 
 def check_paths_of_containers(_: Room) -> None:
-    """Group paths are printed with container names, and are found by path, unit or container name.
+    """Group paths are printed with container names. Groups can be selected by path, unit or
+    container name.
     """
     names = GroupNames({NUMBER: "web", UID: "prod/web-7"})
     for path, wanted in PATHS:

@@ -1,5 +1,5 @@
-"""Makes companion files (process names, container names, times of day) for traces that come from no
-recording, from the trace's lines alone.
+"""Makes companion files (process names, container names and times of day) for traces without a
+recording, from the lines of the trace.
 """
 from __future__ import annotations
 
@@ -15,15 +15,15 @@ WINDOW = 10**9
 
 
 def first_process(label: int) -> int:
-    """Returns the process number of a task that is a process of its own."""
+    """Returns the process number of a task that isn't a thread of another process."""
     return 1000 + label
 
 
 def companion(  # noqa: B006
     trace: str, names: dict[int, str], begins: str = BEGAN, processes: dict[int, int] = {}
 ) -> Companion:
-    """Returns the companion of a trace: `names` by task label, and `processes` for the labels of
-    tasks that are threads.
+    """Returns the companion of a trace. `names` has process names by task label, and `processes`
+    the process numbers of the tasks that are threads.
     """
     size, digest = digest_of([trace.encode()])
     lives: dict[int, Life] = {}
@@ -59,7 +59,7 @@ def companion(  # noqa: B006
 
 
 def with_companion(room: Room, name: str, trace: str, found: Companion) -> str:
-    """Writes a trace and its companion file, and returns the trace's name in the room."""
+    """Writes a trace and its companion file, and returns the name of the trace."""
     room.file(name, trace)
     write(f"{room.path}/{companion_of(name)}", found)
     return name

@@ -1,4 +1,6 @@
-"""Checks of the companion file."""
+"""Checks of companion files, which contain process names, container names and the time of day of a
+trace.
+"""
 from __future__ import annotations
 
 import os
@@ -41,7 +43,7 @@ def check_names_are_escaped(_: Room) -> None:
 
 
 def check_a_file_is_read_as_it_was_written(room: Room) -> None:
-    """A companion with random names, once written, is read back unchanged."""
+    """A companion with random names is unchanged after it is written and read."""
     draw = random.Random(2)
     trace = runaway()
     processes: tuple[dict[int, int], ...] = ({}, {2: 1001})
@@ -61,8 +63,8 @@ def check_a_file_is_read_as_it_was_written(room: Room) -> None:
 
 
 def check_damaged_files(room: Room) -> None:
-    """A damaged companion is rejected with the number of its line, and a companion of another trace
-    is rejected too.
+    """A damaged companion is rejected with the number of the wrong line. A companion of another
+    trace is rejected too.
     """
     trace = runaway()
     with_companion(room, "r.trace", trace, companion(trace, {}))
@@ -103,7 +105,7 @@ def check_damaged_files(room: Room) -> None:
 
 
 def check_windows_add_up(room: Room) -> None:
-    """For each group the run times (ns) of all windows add up to the group's whole run time."""
+    """A group's run times (ns) in all windows add up to the group's total run time."""
     trace = runaway()
     found = companion(trace, {})
     with_companion(room, "r.trace", trace, Companion(found.size, found.digest, found.length))
@@ -115,7 +117,9 @@ def check_windows_add_up(room: Room) -> None:
 
 
 def check_anonymous_traces(room: Room) -> None:
-    """In an anonymous trace groups and tasks are numbers, and everything else is unchanged."""
+    """In an anonymous trace, groups and tasks have numbers instead of names. Everything else is
+    unchanged.
+    """
     trace, anonymous = runaway(), Anonymous()
     names = {1: "httpd", 2: "indexer", 3: "import"}
     parts = [trace[start : start + 1000].encode() for start in range(0, len(trace), 1000)]

@@ -1,5 +1,5 @@
-"""Checks of blame by process: the times for each process are those that blame without names reports
-if each process has its own group.
+"""Checks of the times that blame prints for processes. They must equal the times that it prints for
+groups if each process has a group of its own.
 """
 from __future__ import annotations
 
@@ -14,7 +14,8 @@ from shared.traces import Maker
 
 BLAME = "tools/blame"
 TRACES = 12
-# The label of each thread, with the process number of the task whose thread it is.
+# Tasks that are threads: the task's label, with the number of the process to which the thread
+# belongs.
 THREADS = {3: first_process(1), 5: first_process(2)}
 
 
@@ -31,7 +32,9 @@ def process_of(label: int) -> int:
 
 
 def with_groups_of_processes(trace: str) -> str:
-    """Returns the trace with each process in its own group, a child of the process's group."""
+    """Returns the trace with each process in a new group of its own, below the group in which the
+    process was.
+    """
     lines, live = [], set[str]()
 
     def group_of(now: str, path: str, label: str) -> str:
@@ -59,7 +62,7 @@ def with_groups_of_processes(trace: str) -> str:
 
 
 def groups_in(room: Room, *words: str) -> list[dict[str, Any]]:
-    """Returns blame's JSON entries for all groups."""
+    """Returns the entries of all groups in blame's JSON output."""
     done = room.run(BLAME, *words, "--json")
     must_be(f"the status of blame {words}, which said {done.error}", done.status, 0)
     found: list[dict[str, Any]] = json.loads(done.output)["groups"]
@@ -67,15 +70,15 @@ def groups_in(room: Room, *words: str) -> list[dict[str, Any]]:
 
 
 def base(name: str) -> str:
-    """Returns the parent of a process's group, without the number that marks a later group at the
-    same path.
+    """Returns the group above a process's own group. The number that distinguishes groups with the
+    same path is removed.
     """
     return name.partition("#")[0].rpartition("/")[0] or "/"
 
 
 def check_parts_by_process(room: Room) -> None:
-    """In random traces with threads and moves, the times of each process are those of a group that
-    holds the process alone.
+    """In random traces with threads and moves, the times of each process equal those of a group
+    that contains only this process.
     """
     for seed in range(TRACES):
         trace = Load(seed, 1).trace()
@@ -108,8 +111,8 @@ TEXT = """/batch/index waited 12.120 s for a processor between 100 s and 220 s \
 
 
 def check_names_in_the_text(room: Room) -> None:
-    """The text output lists a group's processes after the group's times, and leaves them out with
-    --no-names.
+    """The text output lists the processes of a group after the times of the group. With --no-names
+    it omits them.
     """
     with open(RUNAWAY, encoding="ascii") as file:
         trace = file.read()

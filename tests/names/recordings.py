@@ -1,4 +1,4 @@
-"""Checks of companion files that psitrace makes from stored recordings."""
+"""Checks of the companion files that psitrace makes from stored recordings."""
 from __future__ import annotations
 
 import re
@@ -16,7 +16,7 @@ FORK = re.compile(r"^(\d+) fork (\d+) ", re.MULTILINE)
 START = "2026-11-28T14:00:00+01:00"
 
 
-def made(room: Room, folder: str, *words: str) -> tuple[str, Companion, str]:
+def convert(room: Room, folder: str, *words: str) -> tuple[str, Companion, str]:
     """Converts a recording, and returns its trace, its companion and its summary."""
     done = room.run(PSITRACE, folder, "-o", "x.trace", *words)
     must_be(f"the status of psitrace, which said {done.error}", done.status, 0)
@@ -27,11 +27,11 @@ def made(room: Room, folder: str, *words: str) -> tuple[str, Companion, str]:
 
 
 def check_tasks_of_a_recording(room: Room) -> None:
-    """Each task of the trace is in the companion, with its names before and after exec, also if
-    only a part of the recording is converted.
+    """Each task of the trace is in the companion, with its names before and after exec. That also
+    holds for a part of a recording.
     """
     with recording("exec-2") as folder:
-        trace, found, said = made(room, folder, "--start", START)
+        trace, found, said = convert(room, folder, "--start", START)
         forks = sorted((int(label), int(now)) for now, label in FORK.findall(trace))
         must_be("the tasks", sorted((it.label, it.first) for it in found.tasks), forks)
         must_be("the start", found.start and wall_text(found.start), START)
@@ -40,7 +40,7 @@ def check_tasks_of_a_recording(room: Room) -> None:
         must_be("process 1", init.name, "init")
         renamed = [it for it in found.tasks if len({name for _, name in it.names}) > 1]
         must(renamed != [], "some task has several names")
-        _, part, _ = made(room, folder, "--from", "5")
+        _, part, _ = convert(room, folder, "--from", "5")
         names = {
             it.task: it.name_at(5 * SECOND)
             for it in found.tasks
@@ -48,15 +48,16 @@ def check_tasks_of_a_recording(room: Room) -> None:
         }
         must_be("a name before the part", next(it for it in part.tasks if it.task == 1).name,
                 names[1])
-        _, bare, _ = made(room, folder, "--no-names")
+        _, bare, _ = convert(room, folder, "--no-names")
         must_be("without names", (bare.tasks, bare.busy, bare.containers), ([], [], {}))
 
 
 def check_a_folded_recording(room: Room) -> None:
-    """Folding groups changes the tasks, but not which process ran most in each window."""
+    """Folding a recording merges tasks, but doesn't change which process ran most in each window.
+    """
     with recording("exec-2") as folder:
-        _, whole, _ = made(room, folder)
-        _, folded, _ = made(room, folder, "--fold", "1", "--force")
+        _, whole, _ = convert(room, folder)
+        _, folded, _ = convert(room, folder, "--fold", "1", "--force")
     must_be("who ran", folded.busy, [it for it in whole.busy])
     must_be("labels", {it.label for it in folded.tasks}, {0})
     processes = {it.number for busy in folded.busy for it in busy.processes}
@@ -64,10 +65,10 @@ def check_a_folded_recording(room: Room) -> None:
 
 
 def check_an_anonymous_recording(room: Room) -> None:
-    """An anonymous trace and its companion contain no name and no path of the recording."""
+    """An anonymous trace and its companion contain no names and no paths of the recording."""
     with recording("exec-2") as folder:
-        trace, found, said = made(room, folder)
-        hidden, anonymous, _ = made(room, folder, "--anonymize")
+        trace, found, said = convert(room, folder)
+        hidden, anonymous, _ = convert(room, folder, "--anonymize")
     paths = set(re.findall(r"^\d+ group (\S+)$", trace, re.MULTILINE))
     text = "\n".join([hidden, *lines_of(anonymous)])
     for secret in {
@@ -84,7 +85,7 @@ def check_an_anonymous_recording(room: Room) -> None:
 def check_the_clock_of_a_recording(room: Room) -> None:
     """The companion has the summary's time of day, in the requested time zone."""
     with recording("wakeups") as folder:
-        _, found, said = made(room, folder, "--from", "3", "--to", "4", "--tz", "+05:45")
+        _, found, said = convert(room, folder, "--from", "3", "--to", "4", "--tz", "+05:45")
     assert found.start
     shown = re.search(r"0 is (\S+) (\S+) UTC", said)
     must_be("the start", shown and wall_text(found.start._replace(ahead=0))[:23],

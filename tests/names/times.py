@@ -1,5 +1,5 @@
-"""Cases of times of day in the tools of kills: which kills the options select, and how times are
-printed.
+"""Checks of times of day in the tools that report kills: which kills the options select, and how
+times are printed.
 """
 from __future__ import annotations
 
@@ -15,29 +15,29 @@ from shared.rooms import RUNAWAY, RUNAWAY_RULES, Done, Room
 
 SECOND = 10**9
 SETTINGS = os.path.join(TOP, "examples", "runaway-systemd")
-# The companion says that the trace began at this time.
+# The start of the trace, as the companion file states it.
 BEGAN, DAY_SECONDS = "2026-11-28T14:00:00+01:00", 14 * 3600
-# A time in seconds, with the time of day.
+# A time in seconds, followed by the time of day.
 PAIR = re.compile(r"\b([0-9]+) s \(([0-9]{2}):([0-9]{2}):([0-9]{2})\)")
 ID = "4fd3" + "0" * 60
 
 
 def named(room: Room) -> str:
-    """Writes the runaway trace with a companion."""
+    """Writes the example trace `runaway` with a companion file."""
     with open(RUNAWAY, encoding="ascii") as file:
         text = file.read()
     with_companion(room, "a.trace", text, companion(text, {}, begins=BEGAN))
     return "a.trace"
 
 
-def done_of(room: Room, *words: str, status: int = 0, given: str = "") -> Done:
-    done = room.run(*words, given=given)
+def done_of(room: Room, *words: str, status: int = 0, stdin: str = "") -> Done:
+    done = room.run(*words, stdin=stdin)
     must_be(f"the status of {words}, which said {done.error}", done.status, status)
     return done
 
 
 def kills_of(room: Room, *words: str) -> list[int]:
-    """The times (s) of the kills that a tool's JSON has."""
+    """Returns the times (s) of the kills in a tool's JSON output."""
     found: Any = done_of(room, *words, "--json").json()
     rows = (
         found.get("decisions") or [it for trace in found.get("traces", []) for it in trace["kills"]]
@@ -48,7 +48,7 @@ def kills_of(room: Room, *words: str) -> list[int]:
 
 
 def tools_of(trace: str) -> dict[str, tuple[str, ...]]:
-    """The command lines of the tools of kills, which are in different packages."""
+    """Returns the command lines of the tools that report kills, by name."""
     return {
         "oomd": ("tools/oomd", trace, "--config", RUNAWAY_RULES),
         "systemd-oomd": ("tools/systemd-oomd", trace, "--settings", SETTINGS),
@@ -62,7 +62,7 @@ def tools_of(trace: str) -> dict[str, tuple[str, ...]]:
 
 
 def prepare(room: Room) -> str:
-    """Writes a trace, rules that kill several times, and an expectation."""
+    """Writes a trace, rules that kill several times, and a file with an expectation."""
     with open(RUNAWAY_RULES, encoding="utf-8") as file:
         rules = json.load(file)
     rules["rulesets"][0]["post_action_delay"] = "10"
@@ -72,8 +72,8 @@ def prepare(room: Room) -> str:
 
 
 def check_a_part_selects_kills(room: Room) -> None:
-    """Each way to give a part, by seconds or by times of day, selects the kills of that time and no
-    others. All ways are tried with one tool, and two of them with the others.
+    """All forms of the options for an interval, by seconds or by times of day, select exactly the
+    kills in the interval. All forms are tested with one tool, and two of them with the other tools.
     """
     trace = prepare(room)
     for name, words in tools_of(trace).items():
@@ -95,8 +95,8 @@ def check_a_part_selects_kills(room: Room) -> None:
 
 
 def check_times_of_day_are_printed(room: Room) -> None:
-    """Each time of day is that of its seconds, in the machine's zone or in another; without a clock
-    there is none.
+    """Each printed time of day belongs to the seconds before it, in the trace's time zone or in
+    another. Without a start time, no time of day is printed.
     """
     trace = prepare(room)
     for name, words in tools_of(trace).items():
@@ -108,15 +108,15 @@ def check_times_of_day_are_printed(room: Room) -> None:
                 must_be(f"{name} {zone}: the time of day at {seconds} s",
                         hours * 3600 + minutes * 60 + rest, DAY_SECONDS + ahead + int(seconds))
         plain = done_of(room, *(RUNAWAY if it == trace else it for it in words)).output
-        told = done_of(room, *words).output
+        output = done_of(room, *words).output
         must(not PAIR.search(plain), f"{name}: no time of day without a clock")
         if name.startswith("explain"):
-            must_be(f"{name}: nothing else differs", PAIR.sub(r"\1 s", told), plain)
+            must_be(f"{name}: nothing else differs", PAIR.sub(r"\1 s", output), plain)
 
 
 def check_comparisons(room: Room) -> None:
-    """`compare` and `sweep` compare the kills of a part; `expect` and `sweep` print its times of
-    day.
+    """`compare` and `sweep` compare the kills of an interval. `expect` and `sweep` print the times
+    of day of the interval.
     """
     trace = prepare(room)
     first = kills_of(room, "tools/rules", "expect", "want", trace, "--rules", "often.json")[0]
@@ -128,22 +128,22 @@ def check_comparisons(room: Room) -> None:
     rows = found["rows"]  # type: ignore[index]
     must(all(it["moment_ns"] > first * SECOND for row in rows for it in row["kills"]), f"{rows}")
     room.file("want", "no kill of /batch/import\n")
-    told = done_of(
+    output = done_of(
         room, "tools/rules", "expect", "want", trace, "--rules", "often.json", status=1
     ).output
-    must(f"killed at {first} s ({clock}) by" in told, told)
+    must(f"killed at {first} s ({clock}) by" in output, output)
     done_of(room, "tools/rules", "expect", "want", trace, "--rules", "often.json", "--to",
             str(first - 1))
     lower = ("tools/rules", "compare", RUNAWAY_RULES, "often.json", trace)
     done_of(room, *lower, status=1)
-    told = done_of(room, *lower, "--to", str(first)).output
-    must_be("compare, up to the first kill", told,
+    output = done_of(room, *lower, "--to", str(first)).output
+    must_be("compare, up to the first kill", output,
             f"{trace}: same: 1 kill, /batch/import at {first} s ({clock})\n")
 
 
 def check_suggestions(room: Room) -> None:
-    """In a part `suggest` looks at its kills only, and tries a grid, since an earlier kill may
-    prevent one.
+    """For an interval, `suggest` considers only kills in it. It tries a grid of values, since an
+    earlier kill may prevent a kill in the interval.
     """
     trace = prepare(room)
     room.file("want", "first /batch/import from 140 to 200\n")
@@ -158,7 +158,7 @@ def check_suggestions(room: Room) -> None:
 
 
 def points_in(text: str) -> dict[str, list[int]]:
-    """The times (s since 1970) of each metric."""
+    """Returns the times (s since 1970) of each metric's points."""
     found: dict[str, list[int]] = {}
     for line in text.splitlines():
         if not line.startswith("#"):
@@ -168,28 +168,28 @@ def points_in(text: str) -> dict[str, list[int]]:
 
 
 def check_metrics(room: Room) -> None:
-    """`openmetrics` has the points of a part, with the same values, and names of containers as a
-    label.
+    """For an interval, `openmetrics` prints the points in it, with unchanged values and with
+    container names as labels.
     """
     printed = done_of(room, "psi_oomd", "replay", RUNAWAY, "--report-s", "10").output.replace(
         "/batch/import", f"/pods/cri-{ID}.scope"
     )
     words = ("tools/openmetrics", "--start", BEGAN)
-    whole = done_of(room, *words, given=printed).output
+    whole = done_of(room, *words, stdin=printed).output
     part = done_of(
-        room, *words, "--from", "13:01", "--to", "120", "--tz", "UTC", given=printed
+        room, *words, "--from", "13:01", "--to", "120", "--tz", "UTC", stdin=printed
     ).output
     start = 1795870800
     wanted = {
-        name: kept for name, times in points_in(whole).items() if (
-            kept := [it for it in times if start + 60 <= it <= start + 120]
+        name: inside for name, times in points_in(whole).items() if (
+            inside := [it for it in times if start + 60 <= it <= start + 120]
         )
     }
     must_be("the points of the part", points_in(part), wanted)
     must(set(part.splitlines()) <= set(whole.splitlines()), "its lines are those of the whole")
     room.file("names", f"{ID} default/web/nginx\n")
-    told = done_of(room, *words, "--containers", "names", given=printed).output
+    output = done_of(room, *words, "--containers", "names", stdin=printed).output
     label = f'id="/pods/cri-{ID}.scope"'
-    must(label in whole and f'{label},name="default/web/nginx"' in told,
+    must(label in whole and f'{label},name="default/web/nginx"' in output,
          "the container's name is a label")
-    must_be("nothing else differs", told.replace(',name="default/web/nginx"', ""), whole)
+    must_be("nothing else differs", output.replace(',name="default/web/nginx"', ""), whole)

@@ -1,5 +1,5 @@
-"""Compares the kills of the emulation with stored kills and with oomd itself. The kills must be
-equal, except among groups of equal rank.
+"""Compares the emulation's kills with stored kills and with the kills of oomd itself. They must be
+equal, except that groups of equal rank may be exchanged.
 """
 from __future__ import annotations
 
@@ -35,8 +35,8 @@ def check_the_stored_answers(room: Room) -> None:
 
 
 def check_that_rules_differ_where_stored(room: Room) -> None:
-    """psi_oomd's own kills for the same files are the stored ones; they differ from oomd's in 39
-    experiments.
+    """For the files of each experiment, psi_oomd has the stored kills, or rejects the configuration
+    if the experiment says `refused`. psi_oomd's result differs from oomd's in 39 experiments.
     """
     for it in FOUND:
         run = run_of(room, it)
@@ -72,7 +72,7 @@ def check_oomd_on_the_experiments(room: Room) -> None:
 
 
 def watching(action: str, cgroup: str, **more: object) -> Config:
-    """Returns a configuration that kills early in any recording."""
+    """Returns a configuration that kills early in each recording."""
     resource = {"resource": "memory"} if action == "kill_by_pressure" else {}
     detectors = [
         plugin("pressure_above", "*,*/*", resource="memory", threshold=1, duration=2),
@@ -82,7 +82,9 @@ def watching(action: str, cgroup: str, **more: object) -> Config:
 
 
 def some_rules() -> dict[str, str]:
-    """Returns configurations by name: Debian's default file, and others in common use."""
+    """Returns configurations by name: Debian's default configuration, and others that cover all
+    kinds of kill, a recursive kill, pressure of IO, and kills without a condition.
+    """
     actions = (GROWTH, SWAP, "kill_by_pressure", "kill_by_pg_scan")
     found = {it: written(watching(it, "*/*,*/*/*")) for it in actions}
     found["down"] = written(watching(GROWTH, "*", recursive="true"))
@@ -99,8 +101,8 @@ def some_rules() -> dict[str, str]:
 
 
 def must_agree_on(what: str, trace: str, config: str, warm: int = 0) -> int:
-    """Runs the emulation and oomd itself at each interval, and raises if their kills differ.
-    Returns the number of kills.
+    """Runs the emulation and oomd itself with each interval (s) of INTERVALS between evaluations,
+    and raises if their kills differ. Returns the number of kills.
     """
     count = 0
     for interval in INTERVALS:
@@ -134,7 +136,7 @@ def traces(room: Room) -> Iterator[tuple[str, str]]:
             yield name, room.file(f"{name}.trace", done.output)
     for name in TEXTS:
         with gzip.open(os.path.join(TOP, f"tests/data/{name}.ftrace.gz")) as file:
-            imported = room.run("psi_oomd", "import", "-", "--cpus", "2", given=file.read())
+            imported = room.run("psi_oomd", "import", "-", "--cpus", "2", stdin=file.read())
         must_be(f"import of {name}, which said {imported.error}", imported.status, 0)
         yield name, room.file(f"{name}.trace", imported.output)
     yield "debian-2cpu", os.path.join(TOP, "examples/real/debian-2cpu.trace")
@@ -153,7 +155,7 @@ def check_recordings(room: Room) -> None:
 
 
 def random_run(folder: str, seed: int) -> Run:
-    """Writes the trace and the configuration of a random case."""
+    """Writes the trace and the configuration of a random case. Returns the arguments of its run."""
     draw = random.Random(seed)
     texts = (
         random_cases.Load(draw, draw.choice((15, 30, 60))).text(),
@@ -168,8 +170,8 @@ def random_run(folder: str, seed: int) -> Run:
 
 
 def random_share(share: int) -> None:
-    """On the random cases of this share the emulation agrees with oomd, if oomd is installed. The
-    cases of oomd run in parallel.
+    """Compares the emulation with oomd on the random cases whose seed is `share` modulo SHARES, if
+    oomd is installed. Each share is a check of its own, so the shares can run in parallel.
     """
     if not has_oomd():
         return

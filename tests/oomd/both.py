@@ -1,4 +1,4 @@
-"""Runs the emulation and oomd itself on one trace, for the checks of tools/oomd."""
+"""Runs the emulation of oomd and oomd itself on the same trace."""
 from __future__ import annotations
 
 import functools
@@ -36,8 +36,8 @@ def has_oomd() -> bool:
 
 
 def alone(check: Callable[[Room], None]) -> Callable[[Room], None]:
-    """Returns a check that runs in its own process, since it replaces functions that other checks
-    call.
+    """Wraps a check so that it runs in a process of its own, because it replaces functions that
+    other checks call.
     """
 
     @functools.wraps(check)
@@ -57,7 +57,7 @@ def alone(check: Callable[[Room], None]) -> Callable[[Room], None]:
 
 @functools.lru_cache(maxsize=None)
 def sandbox() -> str:
-    """Returns the name of the program that isolates oomd here: bwrap, unshare, or `none` if neither
+    """Returns the program that isolates oomd on this machine: bwrap, unshare, or `none` if neither
     works.
     """
     for kind in ("bwrap", "unshare"):
@@ -67,15 +67,15 @@ def sandbox() -> str:
 
 
 def run_of(room: Room, it: Experiment) -> Run:
-    """Writes the files of an experiment, and returns the run of them."""
+    """Writes the files of an experiment, and returns the arguments of its run."""
     stem = f"{abs(hash(it.name)):x}"
     trace = room.file(f"{stem}.trace", it.story.text(it.end))
     config = room.file(f"{stem}.json", written(it.config))
-    given = Extras(dict(map(given_number, it.given)))
+    extras = Extras(dict(map(given_number, it.given)))
     uptime = UPTIME if it.uptime is None else it.uptime * SECOND
     folder = room.path
     return Run(
-        os.path.join(folder, trace), os.path.join(folder, config), (), it.interval, given,
+        os.path.join(folder, trace), os.path.join(folder, config), (), it.interval, extras,
         it.warm * it.interval, uptime,
     )  # fmt: skip
 
@@ -94,8 +94,8 @@ def emulated(run: Run) -> Engine:
 
 
 def must_agree(what: str, it: Engine, kills: list[Kill]) -> None:
-    """Raises unless each of oomd's kills is one that the emulation allows: the same victim, or one
-    of equal rank.
+    """Raises unless the emulation allows each of oomd's kills: the victim must be the same, or have
+    the same rank.
     """
     for own, other in zip(it.decisions, kills):
         found = own.kill()
@@ -107,7 +107,8 @@ def must_agree(what: str, it: Engine, kills: list[Kill]) -> None:
 
 
 def must_be_stored(what: str, it: Engine, wanted: str) -> None:
-    """Raises unless the emulation's kills are the stored ones, except among groups of equal rank.
+    """Raises unless the emulation's kills equal the stored ones, except that groups of equal rank
+    may be exchanged.
     """
     if wanted == CRASH:
         must(it.crash, f"{what}: oomd crashes, and the emulation doesn't say so")
@@ -125,5 +126,5 @@ def must_be_stored(what: str, it: Engine, wanted: str) -> None:
 
 
 def ran(run: Run, kind: str | None = None) -> binary.BinaryRun:
-    """Runs oomd itself on a trace, in this kind of sandbox."""
+    """Runs oomd itself on a trace, in a sandbox of this kind."""
     return binary.run_binary(Program(), run, "oomd", kind or sandbox())

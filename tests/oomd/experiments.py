@@ -1,5 +1,5 @@
-"""Defines 58 small experiments, each about one rule of oomd, with the kills of Debian's oomd 0.5.0,
-and with psi_oomd's kills for the same file and ticks of 1 s.
+"""Defines 58 small experiments, each about one property of oomd's rules. The expected kills are
+those of Debian's oomd 0.5.0, and those of psi_oomd for the same file with ticks of 1 s.
 """
 from __future__ import annotations
 
@@ -24,9 +24,9 @@ CRASH = "crash"
 
 @dataclass(frozen=True)
 class Experiment:
-    """A trace of some seconds, and a configuration. `oomd` and `rules` are the kills of oomd and of
-    psi_oomd, such as `4s:/a`, followed by `r1a0` unless ruleset and action are both 0, or `refused`
-    if psi_oomd rejects the file.
+    """A short trace and a configuration. `oomd` and `rules` are the kills of oomd and of psi_oomd.
+    A kill is a time and a path, such as `4s:/a`. The numbers of its ruleset and action follow, such
+    as `(r1a0)`, unless both are 0. `refused` means that psi_oomd rejects the configuration.
     """
 
     name: str
@@ -46,7 +46,8 @@ FOUND: list[Experiment] = []
 
 def add(name: str, story: Story, end: float, config: Config, oomd: str, rules: str | None = None,
         **more: Any) -> None:
-    """Adds an experiment that lasts `end` s. Without `rules`, psi_oomd's kills are those of oomd.
+    """Adds an experiment that lasts `end` s. If `rules` is omitted, psi_oomd must have the same
+    kills as oomd.
     """
     wanted = oomd if rules is None else rules
     FOUND.append(Experiment(name, story, end, config, oomd, wanted, **more))
@@ -57,7 +58,7 @@ def grow(cgroup: str, delay: int = 600, **more: object) -> Config:
 
 
 def above(cgroup: str, threshold: object, duration: object = 0) -> list[Config]:
-    """Returns a detector group that is true if memory pressure is above `threshold` percent for
+    """Returns a detector group that holds if memory pressure is above `threshold` percent for
     `duration` s.
     """
     return [

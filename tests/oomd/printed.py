@@ -1,4 +1,4 @@
-"""Checks of the output and the options of tools/oomd."""
+"""Checks of the output and of the options of tools/oomd."""
 from __future__ import annotations
 
 import json
@@ -23,9 +23,7 @@ OOMD = "tools/oomd"
 
 
 def put(room: Room, story: Story, end: float, config: object) -> tuple[str, str, str]:
-    """Writes a trace of `end` s and a configuration, and returns the arguments that name these
-    files.
-    """
+    """Writes a trace of `end` s and a configuration. Returns the arguments with both names."""
     trace = room.file("t.trace", story.text(end))
     return trace, "--config", room.file("c.json", json.dumps(config))
 
@@ -56,8 +54,8 @@ oomd 0.5.0: 2 looks, one each 1 s
 
 
 def check_the_story(room: Room) -> None:
-    """oomd's own interval is 5 s, so it kills at 150 s. psi_oomd kills at that time with ticks of 1
-    s, and at 146 s with its default ticks.
+    """oomd evaluates its rules each 5 s, so it kills at 150 s. psi_oomd kills at 150 s with ticks
+    of 1 s, and at 146 s with its default ticks.
     """
     done = room.run(OOMD, RUNAWAY, "--config", RUNAWAY_RULES, "--compare", RUNAWAY_RULES)
     lines = done.output.splitlines()
@@ -120,12 +118,12 @@ def check_standard_input(room: Room) -> None:
     story = Story("/a").task("/a").mem(0, "/a", 5)
     trace, *words = put(room, story, 2, rules(ALWAYS, plugin(GROWTH, "a")))
     with_file = room.run(OOMD, trace, *words, "--interval-s", "1").output
-    done = room.run(OOMD, "-", *words, "--interval-s", "1", given=story.text(2))
+    done = room.run(OOMD, "-", *words, "--interval-s", "1", stdin=story.text(2))
     done.must_print("from the standard input", 0, with_file)
 
 
 def check_given_numbers(room: Room) -> None:
-    """Protected memory is divided among siblings as in the kernel."""
+    """Memory protection is divided among sibling groups as in the kernel."""
     story = Story("/s", "/s/a", "/s/b").task("/s/a").task("/s/b")
     story.mem(0, "/s", 100 * MIB).mem(0, "/s/a", 60 * MIB).mem(0, "/s/b", 40 * MIB)
     words = put(room, story, 1, rules(ALWAYS, plugin(GROWTH, "s/*", size_threshold=0)))
@@ -133,8 +131,8 @@ def check_given_numbers(room: Room) -> None:
         f"--given=/s{it}/memory.low={size * MIB}" for it, size in (("", 30), ("/a", 60), ("/b", 0))
     ]
     must_be("the largest", kills(room, *words), [(1, "/s/a")])
-    # /s protects 30 MiB, so no more than 30 of /s/a's 60 MiB are protected: /s/a counts with 30
-    # MiB, and /s/b with 40.
+    # /s protects 30 MiB, so only 30 of the 60 MiB of /s/a are protected. So /s/a counts with 30
+    # MiB, and /s/b with 40 MiB.
     must_be("with protection", kills(room, *words, *low), [(1, "/s/b")])
     must_be("without the parent's", kills(room, *words, *low[1:]), [(1, "/s/a")])
     dying = rules([plugin("nr_dying_descendants", "s", count=3, lte="false")],
@@ -150,8 +148,8 @@ def check_given_numbers(room: Room) -> None:
 
 
 def check_warm(room: Room) -> None:
-    """With --warm, a condition that holds at the start leads to an earlier kill, and growth is
-    computed from earlier samples.
+    """With --warm, oomd runs before the trace starts. So a condition that holds at the start leads
+    to an earlier kill, and growth is computed from earlier samples.
     """
     words = put(room, Story("/a").task("/a").mem(0, "/a", 5), 2,
                 rules(ALWAYS, plugin(GROWTH, "a", post_action_delay=2)))
@@ -160,8 +158,8 @@ def check_warm(room: Room) -> None:
 
 
 def check_drop_ins(room: Room) -> None:
-    """A drop-in is a separate ruleset that runs first; the base ruleset stays active unless it has
-    `disable-on-drop-in`.
+    """A drop-in is a separate ruleset that runs before the base ruleset. The base ruleset stays
+    active unless it has `disable-on-drop-in`.
     """
     story = Story("/a", "/b").task("/a").task("/b").mem(0, "/a", 5).mem(0, "/b", 5)
     part = room.file("part.json",
@@ -190,7 +188,9 @@ def check_drop_ins(room: Room) -> None:
 
 
 def check_left_out_plugins(room: Room) -> None:
-    """Plugins that need what a trace lacks are reported, with what they might have changed."""
+    """A plugin that needs data that the trace doesn't contain is left out. A message says what it
+    might have changed.
+    """
     actions = [
         plugin("kill_by_io_cost", "*"), plugin("systemd_restart", service="x"), plugin(GROWTH, "a")
     ]
@@ -205,8 +205,8 @@ def check_left_out_plugins(room: Room) -> None:
 
 
 def check_plugins_in_any_place(room: Room) -> None:
-    """A false detector among the actions ends the chain, and `stop` always ends it. Both begin the
-    pause.
+    """A false detector among the actions ends the chain of actions, and so does `stop`. In both
+    cases the delay after an action begins.
     """
     story = Story("/a").task("/a").mem(0, "/a", 5)
     go, end = plugin("exists", "a"), plugin("exists", "nope")
@@ -230,7 +230,7 @@ def check_plugins_in_any_place(room: Room) -> None:
 
 
 def check_accounts_that_are_off(room: Room) -> None:
-    """A group whose pressure accounting is off has no pressure."""
+    """A group has no pressure while its pressure accounting is off."""
     above = plugin("pressure_above", "a", resource="memory", threshold=10, duration=0)
     trace = Story(
         "/a"
@@ -242,7 +242,7 @@ def check_accounts_that_are_off(room: Room) -> None:
 
 
 def check_oomd_itself(room: Room) -> None:
-    """With --binary the output is that of oomd itself, and its log has the trace's times."""
+    """With --binary, the output is that of oomd itself. Its log has the times of the trace."""
     if not both.has_oomd():
         return
     words = (RUNAWAY, "--config", RUNAWAY_RULES, "--binary", "--sandbox", both.sandbox(), "--log",
@@ -259,7 +259,8 @@ def check_oomd_itself(room: Room) -> None:
 
 
 def check_a_page(room: Room) -> None:
-    """The page of tools/report shows the kills, and tools/report rejects what tools/oomd rejects.
+    """The page of tools/report shows the kills by oomd, and tools/report rejects everything that
+    tools/oomd rejects.
     """
     done = room.run("tools/report", RUNAWAY, "--oomd", RUNAWAY_RULES, "-o", "page.html")
     must_be("the status, where standard error was " + done.error, done.status, 0)

@@ -12,7 +12,8 @@ KINDS = ("sleep", "run", "stall", "iowait")
 
 
 class Load:
-    """Makes the trace of a machine that changes every 0.5 s. Each task has its own processor."""
+    """Makes the trace of a machine whose state changes each 0.5 s. Each task has its own processor.
+    """
 
     def __init__(self, draw: random.Random, length: int) -> None:
         self.draw, self.length, self.now = draw, length, 0
@@ -42,7 +43,7 @@ class Load:
             self.put(f"group {path}")
 
     def remove(self) -> None:
-        """Removes a group that has no task and no child, if any exists."""
+        """Removes a group without tasks and children, if one exists."""
         used = {*self.homes.values(), *(it.rpartition("/")[0] for it in self.groups)}
         free = [it for it in self.groups if it not in used]
         if free:
@@ -58,7 +59,7 @@ class Load:
         self.put(f"switch {task - 1} 0 sleep")
 
     def turn(self, task: int, state: str) -> None:
-        """Changes the state of a task."""
+        """Changes the state of a task to `state`."""
         before, processor = self.states[task], task - 1
         if before == state:
             return
@@ -74,7 +75,9 @@ class Load:
         self.states[task] = state
 
     def sample(self, path: str) -> None:
-        """Writes a memory sample of a group, which may grow, shrink, swap and scan."""
+        """Writes a memory sample of a group. Its memory may grow or shrink, and its swap and its
+        scanned pages may change.
+        """
         size = self.sizes[path]
         factor = self.draw.choice((0.5, 0.9, 1.0, 1.0, 1.05, 1.3, 2.0))
         size[0] = int(size[0] * factor) + self.draw.choice((0, 0, 4096, MIB, 20 * MIB))
@@ -178,7 +181,7 @@ def some_action(draw: random.Random) -> Config:
 
 
 def some_config(draw: random.Random) -> Config:
-    """Returns one to three rulesets, perhaps with equal names."""
+    """Returns a configuration with one to three random rulesets."""
     found = []
     for number in range(draw.choice((1, 1, 2, 3))):
         groups = [

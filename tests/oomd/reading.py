@@ -1,5 +1,5 @@
-"""Checks how tools/oomd reads a configuration: errors in oomd's words, numbers as in C++, patterns
-as in glob(3).
+"""Checks how tools/oomd parses a configuration: error messages as in oomd, numbers as in C++, and
+patterns as in glob(3).
 """
 from __future__ import annotations
 
@@ -30,18 +30,20 @@ ABORTS = "(it aborts)"
 
 
 def act(name: str, **args: object) -> Any:
-    """Returns a configuration with this action, whose arguments are JSON values."""
+    """Returns a configuration whose only action is this plugin, with these arguments (JSON values).
+    """
     return rules(ALWAYS, {"name": name, "args": args})
 
 
 def see(name: str, **args: object) -> Any:
-    """Returns a configuration with this detector."""
+    """Returns a configuration whose only detector is this plugin, with these arguments."""
     return rules([{"name": name, "args": args}], KILL)
 
 
 PRESSURE: dict[str, Any] = {"cgroup": "a", "resource": "io", "threshold": 1, "duration": 1}
 MEMORY: dict[str, Any] = {"cgroup": "a", "threshold": "1G", "duration": 1}
-# Each configuration with words of oomd's reason for its rejection, or None if oomd accepts it.
+# Configurations. Each has a part of oomd's error message, or None if oomd accepts the
+# configuration.
 CONFIGURATIONS: tuple[tuple[Any, str | None], ...] = (
     ({}, None), ({"rulesets": {}}, None), ({"rulesets": []}, None), (None, None),
     ([], ABORTS), ({"rulesets": [3]}, ABORTS), ({"rulesets": [None]}, "Ruleset is missing name"),
@@ -108,7 +110,7 @@ CONFIGURATIONS: tuple[tuple[Any, str | None], ...] = (
     (act("kill_by_pressure", cgroup="a"), 'Required arg "resource"'),
     (act("kill_by_pg_scan", cgroup="a", recursive="True", debug=0), None),
 )  # fmt: skip
-# Texts, some of them not JSON, with whether oomd accepts each.
+# Texts, some of which aren't valid JSON, and whether oomd accepts them.
 TEXTS = (
     ("// a comment\n{}", True), ("{/* another */}", True), ('{"rulesets":[],}', True),
     ("{} more", True),
@@ -117,7 +119,7 @@ TEXTS = (
 
 
 def reason(data: bytes) -> str | None:
-    """Returns why the emulation of oomd rejects a configuration, or None."""
+    """Returns the emulation's reason to reject a configuration, or None."""
     try:
         engine(configuration("c.json", data), [], Machine(Extras(), Host(GIB, GIB, 0)), 0)
     except Refused as refused:
@@ -133,7 +135,7 @@ def check_each_configuration(_: Room) -> None:
 
 
 def check_places(_: Room) -> None:
-    """An error names the file, the ruleset, the detector group and the plugin."""
+    """An error message contains the file, the ruleset, the detector group and the plugin."""
     found = reason(json.dumps(see("exists")).encode()) or ""
     must(
         found.startswith(
@@ -151,7 +153,7 @@ def check_texts(_: Room) -> None:
 
 
 def check_configurations_by_oomd(room: Room) -> None:
-    """oomd itself accepts and rejects the same configurations, with the same reasons."""
+    """oomd itself rejects the same configurations as the emulation, with the same reasons."""
     if not has_oomd():
         return
     path = os.path.join(room.path, "c.json")
@@ -225,7 +227,9 @@ GLOB_ERR, GLOB_NOSORT, GLOB_BRACE, GLOB_ONLYDIR = 1, 4, 1 << 10, 1 << 13
 
 
 def by_glob(folder: str, pattern: str) -> list[str]:
-    """Returns the folders that the C function glob(3) finds, called as oomd calls it."""
+    """Returns the folders that the C function glob(3) finds for a pattern. The flags are those that
+    oomd uses.
+    """
     libc, found = ctypes.CDLL(None), Glob()
     names: set[str] = set()
     for one in filter(None, pattern.split(",")):

@@ -1,4 +1,4 @@
-"""Checks that bad input is rejected with the tool's message and status 2."""
+"""Checks that tools/oomd rejects bad input with a message and exit status 2."""
 from __future__ import annotations
 
 import os
@@ -21,7 +21,7 @@ NOT_RUN = 2
 
 
 def must_refuse(what: str, done: Done, *words: str) -> None:
-    """Raises unless nothing is printed, the status is 2, and the message contains each of the
+    """Raises unless the output is empty, the exit status is 2, and the message contains all of the
     words.
     """
     must_be(f"{what}: status and output, where standard error was {done.error!r}",
@@ -50,7 +50,7 @@ def check_refused_configurations(room: Room) -> None:
 
 
 def check_refused_traces(room: Room) -> None:
-    """For an invalid trace the message is the line that psi_oomd prints."""
+    """For an invalid trace the message is psi_oomd's own."""
     _, config = files(room)
     line = room.run("psi_oomd", "check", REFUSED).error.strip()
     must(line, "psi_oomd refuses it")
@@ -75,8 +75,8 @@ def check_bad_words(room: Room) -> None:
 
 @both.alone
 def check_programs_that_arent_oomd(room: Room) -> None:
-    """A missing file, a program with other output, a statically linked program, and a program that
-    never ends are each rejected as oomd.
+    """Paths that aren't oomd are rejected: a missing file, a program with other output, a
+    statically linked program, and a program that never ends.
     """
     trace, config = files(room)
     spin = room.file("spin", "#!/bin/sh\nwhile :; do :; done\n", 0o755)
@@ -101,17 +101,21 @@ def check_programs_that_arent_oomd(room: Room) -> None:
 
 
 def static(room: Room) -> str:
-    """Returns the path of a statically linked program."""
-    source, made = os.path.join(
+    """Compiles a statically linked program, and returns its path. Returns /usr/bin/true if the
+    compiler can't link statically.
+    """
+    source, program = os.path.join(
         room.path, room.file("s.c", "int main(void){return 0;}")
     ), os.path.join(room.path, "static")
-    done = subprocess.run(["cc", "-static", "-o", made, source], capture_output=True)
-    return made if done.returncode == 0 else "/usr/bin/true"
+    done = subprocess.run(["cc", "-static", "-o", program, source], capture_output=True)
+    return program if done.returncode == 0 else "/usr/bin/true"
 
 
 @both.alone
 def check_without_a_compiler(room: Room) -> None:
-    """Without a compiler the message says that the compiler is missing."""
+    """If no C compiler is installed, or the source of the library doesn't compile, the message says
+    so.
+    """
     daemon.clock_library.cache_clear()
     with mock.patch.object(
         subprocess, "run", side_effect=FileNotFoundError(2, "No such file or directory")
@@ -135,7 +139,7 @@ def fault_of(call: object) -> str:
 
 @both.alone
 def check_without_a_sandbox(_: Room) -> None:
-    """oomd runs without a sandbox only if that is requested."""
+    """oomd runs without a sandbox only if an option requests that."""
     with mock.patch("shutil.which", lambda name: None):
         said = fault_of(lambda: sandbox(None, "/tmp", "/usr/bin/true"))
     must_be("what it says", said.count("isn't installed"), 2)
@@ -146,7 +150,7 @@ def check_without_a_sandbox(_: Room) -> None:
 
 
 def check_oomds_own_refusal(room: Room) -> None:
-    """If oomd rejects a configuration that the emulation rejects too, oomd's message is printed."""
+    """If the emulation and oomd itself reject a configuration, the message of oomd is printed."""
     if not both.has_oomd():
         return
     trace, _ = files(room)
@@ -158,7 +162,8 @@ def check_oomds_own_refusal(room: Room) -> None:
 
 
 def check_a_crash(room: Room) -> None:
-    """Both the emulation and oomd itself report the time of a crash, and the tool runs to its end.
+    """If a configuration makes oomd crash, both the emulation and oomd itself report the time of
+    the crash, and the tool succeeds.
     """
     trace, _ = files(room)
     bad = room.file("bad.json",
@@ -178,7 +183,7 @@ def check_a_crash(room: Room) -> None:
 
 
 def check_nothing_is_left(room: Room) -> None:
-    """A run leaves no folder, and no file except the requested log."""
+    """A run leaves no folder and no file, except a log that was requested."""
     files(room)
     before = set(os.listdir(room.path))
     temporary = os.path.join(room.path, "tmp")

@@ -1,5 +1,5 @@
-"""Checks of tools/rules with oomd's configurations: expect --by oomd, lint's notes, to-oomd and
-from-oomd.
+"""Checks of tools/rules with configurations of oomd: expect --by oomd, the notes of lint, to-oomd
+and from-oomd.
 """
 from __future__ import annotations
 
@@ -30,8 +30,8 @@ FULL = {"always_continue": "false", "cgroup": "a", "post_action_delay": "15", "r
 
 
 def check_expect(room: Room) -> None:
-    """At oomd's own interval (5 s) the kill is at 150 s. It is at 146 s if oomd evaluates each
-    second, and with psi_oomd's defaults.
+    """oomd evaluates its rules each 5 s, so it kills at 150 s. With an interval of 1 s, and by
+    psi_oomd's defaults, the kill is at 146 s.
     """
     wants = {
         at: room.file(f"{at}.txt", f"first /batch/import from {at} to {at}\n") for at in (146, 150)
@@ -44,11 +44,11 @@ def check_expect(room: Room) -> None:
         (150, ("--tick-ms", "1000")),
     ):
         done = room.run(RULES, "expect", wants[at], RUNAWAY, "--rules", RUNAWAY_RULES, *words)
-        told = (
+        message = (
             f"ok    first /batch/import from {at} to {at}: killed at {at} s by ruleset 0 'batch "
             f"work is short of memory', action 0 '{GROWTH}'"
         )
-        done.must_print(f"by {words}", 0, f"{told}\n")
+        done.must_print(f"by {words}", 0, f"{message}\n")
     other = wants[296 - 150]
     must_be(
         "a wrong time",
@@ -58,13 +58,15 @@ def check_expect(room: Room) -> None:
 
 
 def check_expect_of_an_own_file(room: Room) -> None:
-    """expect --by oomd accepts a file that psi_oomd rejects, and a trace from standard input."""
+    """expect --by oomd accepts a configuration that psi_oomd rejects. The trace may come from
+    standard input.
+    """
     config = room.file("c.json", "// a comment\n" + open(RUNAWAY_RULES, encoding="utf-8").read())
     want = room.file("w.txt",
                      "kill /batch/import by batch work is short of memory\nat most 1 kill\n")
     with open(RUNAWAY, encoding="utf-8") as file:
         done = room.run(RULES, "expect", want, "-", "--rules", config, "--by", "oomd",
-                        given=file.read())
+                        stdin=file.read())
     must_be(f"the status, where standard error was {done.error!r}",
             (done.status, done.output.count("ok    ")), (0, 2))
     must_be("by psi_oomd it is refused",
@@ -86,8 +88,8 @@ def check_words_of_expect(room: Room) -> None:
 
 
 def noted(config: Any) -> list[str]:
-    """Returns lint's notes about cases in which oomd behaves differently."""
-    return [it.told() for it in oomd_notes.notes(config)]
+    """Returns the notes of lint about differences between oomd and psi_oomd."""
+    return [it.text() for it in oomd_notes.notes(config)]
 
 
 def check_notes_of_lint(room: Room) -> None:
@@ -108,9 +110,9 @@ def check_notes_of_lint(room: Room) -> None:
         (plugin(SWAP, "a", threshold="5%"),
          "threshold: oomd keeps SwapTotal in 32 bits: with 2 GiB of swap or more"),
     ):
-        (told,) = noted(rules(ALWAYS, action))
-        must(told.startswith(f"{where}'{action['name']}': note: ") and said in told,
-             f"{action}: {told}")
+        (note,) = noted(rules(ALWAYS, action))
+        must(note.startswith(f"{where}'{action['name']}': note: ") and said in note,
+             f"{action}: {note}")
     for action in (
         plugin(GROWTH, "a", min_growth_ratio="2", growing_size_percentile=99),
         plugin(SWAP, "a", threshold="5M"),
@@ -126,7 +128,7 @@ def check_notes_of_lint(room: Room) -> None:
 
 
 def check_notes_of_ticks(room: Room) -> None:
-    """Lint notes ticks that don't divide the interval."""
+    """Lint prints a note if the tick length doesn't divide the interval between evaluations."""
     for pace, found in (
         ((None, None), ""),
         (
@@ -146,7 +148,7 @@ def check_notes_of_ticks(room: Room) -> None:
         ((1000, None), ""), ((5000, None), ""), ((None, 10), ""), ((500, 1), ""),
     ):  # fmt: skip
         wanted = [f"the pace: note: {found}"] if found else []
-        must_be(f"notes of {pace}", [it.told() for it in oomd_notes.of_pace(*pace)], wanted)
+        must_be(f"notes of {pace}", [it.text() for it in oomd_notes.of_pace(*pace)], wanted)
     file = room.file("r.json", written(rules(ALWAYS, plugin(GROWTH, "a"))))
     done = room.run(RULES, "lint", file, "--tick-ms", "2000")
     must(done.status == 0 and done.output.startswith("r.json: the pace: note: ticks of 2000 ms"),
@@ -154,22 +156,22 @@ def check_notes_of_ticks(room: Room) -> None:
 
 
 def check_examples_go_both_ways(room: Room) -> None:
-    """The example rules, converted to a configuration of oomd and back, are unchanged, and oomd
-    accepts the configuration.
+    """The example rules are unchanged after a conversion to a configuration of oomd and back, and
+    oomd accepts the configuration.
     """
     for name in EXAMPLES:
         file = os.path.join(TOP, "examples", f"{name}.json")
-        made = room.run(RULES, "to-oomd", file)
-        must(made.status in (0, 1), f"{name}: {made.error}")
-        must_be(f"{name}: the status", made.status, int(LOST in made.error))
-        must_be_taken(room, name, made.output)
-        back = room.run(RULES, "from-oomd", room.file("o.json", made.output))
+        result = room.run(RULES, "to-oomd", file)
+        must(result.status in (0, 1), f"{name}: {result.error}")
+        must_be(f"{name}: the status", result.status, int(LOST in result.error))
+        must_be_taken(room, name, result.output)
+        back = room.run(RULES, "from-oomd", room.file("o.json", result.output))
         same = room.run("psi_oomd", "rules", room.file("b.json", back.output)).output
         must_be(f"{name}: the rules again", same, room.run("psi_oomd", "rules", file).output)
 
 
 def must_be_taken(room: Room, what: str, text: str) -> None:
-    """Raises if oomd itself is installed and rejects a configuration."""
+    """Raises if oomd is installed and rejects a configuration."""
     if not has_oomd():
         return
     path = os.path.join(room.path, room.file("taken.json", text))
@@ -185,14 +187,15 @@ def converted(room: Room, command: str, config: Any) -> tuple[Any, int]:
     """
     if command == "from-oomd":
         nearest = Nearest(configuration("in.json", json.dumps(config).encode()))
-        return nearest.data, int(any(is_lost for _, is_lost in nearest.told))
+        return nearest.data, int(any(is_lost for _, is_lost in nearest.notes))
     file = os.path.join(room.path, room.file("in.json", written(config)))
-    made = Converter(canonical(Program(), file))
-    return made.data, int(any(is_lost for _, is_lost in made.told))
+    result = Converter(canonical(Program(), file))
+    return result.data, int(any(is_lost for _, is_lost in result.notes))
 
 
 def check_to_oomd(room: Room) -> None:
-    """to-oomd converts each kind of rule to the configuration that was written by hand."""
+    """to-oomd converts each kind of rule to the expected configuration, which was written by hand.
+    """
     for args, wanted, is_lost in (
         ({"size_threshold": "40", "min_growth_ratio": "1.25"}, {"size_threshold": "40"}, False),
         ({"min_growth_ratio": "2"}, {"min_growth_ratio": "2"}, False),
@@ -200,34 +203,34 @@ def check_to_oomd(room: Room) -> None:
         ({"growing_size_percentile": "100"}, {"growing_size_percentile": "99"}, False),
         ({"recursive": "true"}, {"recursive": "true"}, True),
     ):
-        made, status = converted(room, "to-oomd", rules(ALWAYS, plugin(GROWTH, "a", **args)))
-        found = made["rulesets"][0]["actions"][0]["args"]
+        result, status = converted(room, "to-oomd", rules(ALWAYS, plugin(GROWTH, "a", **args)))
+        found = result["rulesets"][0]["actions"][0]["args"]
         full = {**FULL, "size_threshold": "50", "growing_size_percentile": "80", **wanted}
         must_be(f"{args}", (found, status), (full, int(is_lost)))
     for text, found in (
         ("1", "0K 1"), ("1536", "0K 1536"), ("2048", "2K"), ("1.5G", "1536M"), ("0", "0"),
         ("7%", "7%"),
     ):
-        made, _ = converted(room, "to-oomd", rules(ALWAYS, plugin(SWAP, "a", threshold=text)))
-        must_be(f"the size {text}", made["rulesets"][0]["actions"][0]["args"]["threshold"], found)
-    made, _ = converted(room, "to-oomd", rules(ALWAYS, plugin(GROWTH, r"q\x2d1,b*")))
-    must_be("a backslash", made["rulesets"][0]["actions"][0]["args"]["cgroup"], r"q\\x2d1,b*")
+        result, _ = converted(room, "to-oomd", rules(ALWAYS, plugin(SWAP, "a", threshold=text)))
+        must_be(f"the size {text}", result["rulesets"][0]["actions"][0]["args"]["threshold"], found)
+    result, _ = converted(room, "to-oomd", rules(ALWAYS, plugin(GROWTH, r"q\x2d1,b*")))
+    must_be("a backslash", result["rulesets"][0]["actions"][0]["args"]["cgroup"], r"q\\x2d1,b*")
     empty = {
         "rulesets": [
             {"name": "", "detectors": [[""]], "actions": [plugin(GROWTH, "a")]},
             {**ruleset(ALWAYS), "detectors": []},
         ]
     }
-    made, status = converted(room, "to-oomd", empty)
-    (only,) = made["rulesets"]
+    result, status = converted(room, "to-oomd", empty)
+    (only,) = result["rulesets"]
     must_be("names and a group without detectors", (only["name"], only["detectors"]),
             ("ruleset 0", [["group 0", {"name": "continue", "args": {}}]]))
     must_be("the status of a ruleset without actions", status, 0)
-    must_be_taken(room, "the empty one", json.dumps(made))
+    must_be_taken(room, "the empty one", json.dumps(result))
 
 
 def check_from_oomd(room: Room) -> None:
-    """from-oomd converts each kind of plugin to the rules that were written by hand."""
+    """from-oomd converts each kind of plugin to the expected rules, which were written by hand."""
     for args, wanted, is_lost in (
         ({"min_growth_ratio": "1.25"}, {"min_growth_ratio": "1"}, False),
         ({"size_threshold": " 40 percent"}, {"size_threshold": "40"}, False),
@@ -236,26 +239,26 @@ def check_from_oomd(room: Room) -> None:
          False),
         ({"recursive": "1"}, {"recursive": "true"}, True),
     ):
-        made, status = converted(room, "from-oomd", rules(ALWAYS, plugin(GROWTH, "a", **args)))
-        must_be(f"{args}", (made["rulesets"][0]["actions"][0]["args"], status),
+        result, status = converted(room, "from-oomd", rules(ALWAYS, plugin(GROWTH, "a", **args)))
+        must_be(f"{args}", (result["rulesets"][0]["actions"][0]["args"], status),
                 ({"cgroup": "a", **wanted}, int(is_lost)))
     for text, found in (
         ("1", "1M"), ("1536", "1536M"), ("1.5M 32K 512", "1606144"), ("0K 4096", "4K"),
         ("7.9%", "7%"), ("0", "0"),
     ):
-        made, _ = converted(
+        result, _ = converted(
             room, "from-oomd",
             rules([plugin("memory_above", "a", threshold=text, duration=1)], plugin(GROWTH, "a")),
         )
-        must_be(f"the size {text}", made["rulesets"][0]["detectors"][0][1]["args"]["threshold"],
+        must_be(f"the size {text}", result["rulesets"][0]["detectors"][0][1]["args"]["threshold"],
                 found)
     for text, found, is_lost in (
         ("/a//b/", "a/b", False), (r"q\\x2d1", r"q\x2d1", False), ("a?,{b}", "a*,b", True),
         ("a b,c", "c", False), ("", "no-such-group", False),
     ):  # fmt: skip
-        made, status = converted(room, "from-oomd", rules(ALWAYS, plugin(GROWTH, text)))
+        result, status = converted(room, "from-oomd", rules(ALWAYS, plugin(GROWTH, text)))
         must_be(f"the pattern {text}",
-                (made["rulesets"][0]["actions"][0]["args"]["cgroup"], status),
+                (result["rulesets"][0]["actions"][0]["args"]["cgroup"], status),
                 (found, int(is_lost)))
 
 
@@ -265,23 +268,25 @@ def check_plugins_that_rules_lack(room: Room) -> None:
         (plugin("stop"), 0, False),
         (plugin("nr_dying_descendants", "a", count=1), 0, True), (plugin("senpai", "a"), 0, True),
     ):  # fmt: skip
-        made, status = converted(room, "from-oomd", rules([*ALWAYS, detector], plugin(GROWTH, "a")))
-        must_be(f"groups with {detector}", (len(made["rulesets"][0]["detectors"]), status),
+        result, status = converted(room, "from-oomd",
+                                   rules([*ALWAYS, detector], plugin(GROWTH, "a")))
+        must_be(f"groups with {detector}", (len(result["rulesets"][0]["detectors"]), status),
                 (count, int(is_lost)))
     for action, count, is_lost in (
         (plugin("continue"), 2, False), (plugin("stop"), 1, True),
         (plugin("kill_by_io_cost", "a"), 2, True),
         (plugin("exists", "a"), 2, True), (plugin("systemd_restart", service="x"), 2, True),
     ):  # fmt: skip
-        made, status = converted(
+        result, status = converted(
             room, "from-oomd", rules(ALWAYS, plugin(GROWTH, "a"), action, plugin(GROWTH, "b"))
         )
-        must_be(f"actions with {action}", (len(made["rulesets"][0]["actions"]), status),
+        must_be(f"actions with {action}", (len(result["rulesets"][0]["actions"]), status),
                 (count, int(is_lost)))
 
 
 def check_refused_files(room: Room) -> None:
-    """Each command rejects the files that its program rejects."""
+    """from-oomd rejects files that oomd rejects, and to-oomd rejects files that psi_oomd rejects.
+    """
     bad = room.file("bad.json", written(rules(ALWAYS, plugin(GROWTH, "a", other=1))))
     done = room.run(RULES, "from-oomd", bad)
     must(done.status == 2 and not done.output and "bad.json: ruleset 0 'r', action 0" in done.error,
@@ -292,14 +297,14 @@ def check_refused_files(room: Room) -> None:
 
 
 def check_random_files(room: Room) -> None:
-    """A configuration that oomd accepts becomes rules that psi_oomd accepts, and oomd accepts these
-    rules after conversion back.
+    """For random configurations of oomd, from-oomd makes rules that the reference parser of
+    psi_oomd's rules accepts. After a conversion back with to-oomd, oomd accepts the configuration.
     """
     for seed in range(20):
         config = random_cases.some_config(random.Random(f"rules{seed}"))
-        made, _ = converted(room, "from-oomd", config)
-        text = json.dumps(made)
+        result, _ = converted(room, "from-oomd", config)
+        text = json.dumps(result)
         status, _, said = plain_rules.run(text.encode(), None)
         must_be(f"seed {seed}: what a plain reading says of {text}: {said}", status, 0)
-        back, _ = converted(room, "to-oomd", made)
+        back, _ = converted(room, "to-oomd", result)
         must_be_taken(room, f"seed {seed}", json.dumps(back))

@@ -1,5 +1,5 @@
-"""Checks that no real process or service is affected, even by a configuration without `dry` and a
-real process in a group's list.
+"""Checks that no real process or service is affected, even if a configuration lacks `dry` and a
+group's list of processes contains a real process.
 """
 from __future__ import annotations
 
@@ -36,10 +36,12 @@ def sandboxes() -> list[str]:
 
 
 def check_that_kills_become_dry(_: Room) -> None:
-    """Every plugin that isn't known to be harmless gets the argument `dry`, in each place."""
+    """Each plugin gets the argument `dry`, as an action and as a detector, unless it is known to be
+    harmless.
+    """
     for name in (GROWTH, RESTART, "own_plugin", "kill_by_io_cost"):
-        made = dry.make_dry({"name": name, "args": {"cgroup": "a", "dry": "false"}})
-        must_be(f"dry of {name}", made["args"], {"cgroup": "a", "dry": "true"})
+        result = dry.make_dry({"name": name, "args": {"cgroup": "a", "dry": "false"}})
+        must_be(f"dry of {name}", result["args"], {"cgroup": "a", "dry": "true"})
         must_be(f"dry of {name} alone", dry.make_dry({"name": name})["args"], {"dry": "true"})
     for name in dry.HARMLESS:
         must_be(f"dry of {name}", dry.make_dry({"name": name}), {"name": name})
@@ -48,7 +50,7 @@ def check_that_kills_become_dry(_: Room) -> None:
 
 
 def check_the_files_name_no_process(room: Room) -> None:
-    """All lists of processes in the files made for oomd are empty."""
+    """All lists of processes in the files that oomd reads are empty."""
     found = files_of(room)
     names = [name for name in found if name.endswith("cgroup.procs")]
     must_be("lists of processes", [found[it] for it in names], ["", ""])
@@ -62,7 +64,7 @@ def files_of(room: Room) -> dict[str, str]:
 
 @contextmanager
 def real_process() -> Iterator[subprocess.Popen[bytes]]:
-    """Yields a running process that oomd would kill if it could."""
+    """Yields a running process that a real oomd would kill."""
     child = subprocess.Popen(["sleep", "600"])
     try:
         yield child
@@ -72,8 +74,8 @@ def real_process() -> Iterator[subprocess.Popen[bytes]]:
 
 
 def without_dry(room: Room, action: str, pid: int, kind: str) -> str:
-    """Runs oomd without `dry` on a group whose list of processes contains a real process. Returns
-    oomd's log.
+    """Runs oomd on a group whose list of processes contains the real process `pid`. The action
+    lacks `dry`. Returns the log.
     """
     story = Story("/a").task("/a").mem(0, "/a", 5 * MIB)
     own = {"service": "ssh.service"} if action == RESTART else {"cgroup": "a"}
@@ -105,13 +107,14 @@ def check_that_nobody_is_killed(room: Room) -> None:
         with real_process() as child:
             said = without_dry(room, GROWTH, child.pid, kind)
             must_be(f"{kind}: the process lives", child.poll(), None)
-            told = f"tried to kill process {child.pid}, which was refused"
-            must(told in said, f"{kind}: it tried: {said[-800:]}")
+            message = f"tried to kill process {child.pid}, which was refused"
+            must(message in said, f"{kind}: it tried: {said[-800:]}")
 
 
 @alone
 def check_that_nothing_is_restarted(room: Room) -> None:
-    """The plugin systemd_restart without `dry` can't connect to a D-Bus."""
+    """If the plugin systemd_restart lacks `dry`, it can't connect to D-Bus, and restarts nothing.
+    """
     for kind in sandboxes() if has_oomd() else ():
         with real_process() as child:
             said = without_dry(room, RESTART, child.pid, kind)
@@ -120,7 +123,9 @@ def check_that_nothing_is_restarted(room: Room) -> None:
 
 
 def check_that_the_folder_alone_is_written(room: Room) -> None:
-    """In each sandbox another program in place of oomd can write nothing outside of its folder."""
+    """If another program runs in place of oomd, it can't write outside of its folder, in each kind
+    of sandbox.
+    """
     for kind in sandboxes():
         if kind == "none":
             continue
@@ -142,14 +147,14 @@ def check_that_the_folder_alone_is_written(room: Room) -> None:
 
 
 def check_that_a_copy_is_what_runs(room: Room) -> None:
-    """oomd gets a copy of the user's file in which each kill plugin has `dry`, even in a detector's
-    place. The user's file is unchanged.
+    """oomd reads a copy of the user's file in which each kill plugin has `dry`, even if it is used
+    as a detector. The user's own file is unchanged.
     """
     text = json.dumps(rules([plugin(GROWTH, "a")], plugin(GROWTH, "a")))
     name = room.file("c.json", text)
     copy = json.loads(dry.copy(read_configuration(os.path.join(room.path, name))))
-    made = copy["rulesets"][0]
-    must_be("a detector", made["detectors"][0][1]["args"]["dry"], "true")
-    must_be("an action", made["actions"][0]["args"]["dry"], "true")
+    ruleset = copy["rulesets"][0]
+    must_be("a detector", ruleset["detectors"][0][1]["args"]["dry"], "true")
+    must_be("an action", ruleset["actions"][0]["args"]["dry"], "true")
     with open(os.path.join(room.path, name), encoding="utf-8") as file:
         must_be("the file", file.read(), text)

@@ -1,4 +1,4 @@
-"""Builds small traces and configurations for checks."""
+"""Builds small traces and configurations for the checks of tools/oomd."""
 from __future__ import annotations
 
 import json
@@ -35,8 +35,7 @@ class Story:
         return self.put(at, f"switch {processor} 0 sleep")
 
     def stalls(self, group: str, begin: float, end: float, share: float = 1.0) -> Story:
-        """Adds a task that, from `begin` to `end` (s), waits for memory for this share of every 2
-        s.
+        """Adds a task that stalls for memory from `begin` to `end` (s), for this share of each 2 s.
         """
         self.task(group)
         task, processor, at = self.tasks, self.tasks - 1, begin
@@ -52,8 +51,8 @@ class Story:
         return self.put(at, f"mem {group} {memory} {swap} {scanned}")
 
     def text(self, end: float) -> str:
-        kept = sorted(it for it in self.lines if it[0] <= end * SECOND)
-        body = "".join(f"{at} {text}\n" for at, _, text in kept)
+        lines = sorted(it for it in self.lines if it[0] <= end * SECOND)
+        body = "".join(f"{at} {text}\n" for at, _, text in lines)
         return f"psitrace 1 cpus={max(1, self.tasks)}\n{body}{int(end * SECOND)} end\n"
 
 

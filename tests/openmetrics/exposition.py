@@ -1,5 +1,5 @@
-"""Parses OpenMetrics text strictly: the part of the format that tools/openmetrics writes, counters
-with timestamps.
+"""A strict parser of OpenMetrics text, limited to what tools/openmetrics writes: counters with
+timestamps.
 """
 from __future__ import annotations
 
@@ -22,8 +22,8 @@ ESCAPES = {r"\\": "\\", r"\"": '"', r"\n": "\n"}
 
 
 class Family:
-    """The metadata of a metric family, and the points of its metrics: times (s since 1970) with
-    values.
+    """A metric family: its metadata, and the points of each of its metrics. A point is a time (s
+    since 1970) and a value.
     """
 
     def __init__(self, name: str) -> None:
@@ -33,7 +33,7 @@ class Family:
 
 
 class Sample(NamedTuple):
-    """A line of the text that holds one point."""
+    """A line of the text that contains one point."""
 
     name: str
     labels: Labels
@@ -46,7 +46,7 @@ def unescaped(found: re.Match[str]) -> str:
 
 
 def labels_of(text: Optional[str]) -> Labels:
-    """Returns the labels between braces, and raises if a name is repeated."""
+    """Parses the labels between braces. Raises if a label occurs twice."""
     found = re.findall(rf"({NAME})={TEXT}", text or "")
     must_be(f"names of {text}, how many", len({name for name, _ in found}), len(found))
     return frozenset((name, ESCAPED.sub(unescaped, value)) for name, value in found)
@@ -60,7 +60,7 @@ def sample_of(line: str) -> Sample:
 
 
 class Exposition:
-    """The families of a text, by name. It raises if the text violates the format."""
+    """The parsed families of a text. Raises if the text violates the format."""
 
     def __init__(self, text: str) -> None:
         self.families: dict[str, Family] = {}
@@ -76,7 +76,8 @@ class Exposition:
                 self.take_sample(sample_of(line))
 
     def take_about(self, what: str, name: str, text: str) -> None:
-        """Adds a line of metadata. The metadata of a family must be together, before its samples.
+        """Adds a line of metadata. All metadata of a family must be in consecutive lines before its
+        samples.
         """
         if not self.open or self.open.name != name:
             must(name not in self.families, f"the family {name} stands together")
@@ -89,8 +90,8 @@ class Exposition:
         must(what != "UNIT" or name.endswith(f"_{text}"), f"the name {name} ends with its unit")
 
     def take_sample(self, sample: Sample) -> None:
-        """Adds a point, and raises unless the points of each metric are together, in the order of
-        time, and not below zero.
+        """Adds a point. Raises unless the points of each metric are consecutive, in order of time,
+        and at least 0.
         """
         family = self.open
         if not family:

@@ -1,4 +1,4 @@
-"""Checks that output which can't be written as metrics is reported, with advice."""
+"""Checks that tools/openmetrics reports input that can't be converted, and says what to do."""
 from __future__ import annotations
 
 import functools
@@ -32,11 +32,12 @@ def check_wrong_words(program: str) -> None:
         ([at, "--form=prometheus"], "unrecognized arguments: --form=prometheus"),
     ]
     for words, said in wrong:
-        told = metrics_fault(story(program), *words)
-        must(told.startswith("openmetrics: ") and said in told and "usage: openmetrics " in told,
-             f"{words}: {told}")
-    told = metrics_fault(story(program), at, "--label=job=a", "--label=job=b")
-    must_be("a name twice", told, "openmetrics: --label has a name twice: give each name once\n")
+        message = metrics_fault(story(program), *words)
+        must(message.startswith("openmetrics: ") and said in message
+             and "usage: openmetrics " in message,
+             f"{words}: {message}")
+    message = metrics_fault(story(program), at, "--label=job=a", "--label=job=b")
+    must_be("a name twice", message, "openmetrics: --label has a name twice: give each name once\n")
 
 
 def check_rules_that_cannot_be_read(program: str) -> None:
@@ -56,13 +57,14 @@ def check_rules_that_cannot_be_read(program: str) -> None:
 def check_what_replay_does_not_print(program: str) -> None:
     start = f"--start={START}"
     lines = story(program).splitlines(keepends=True)
-    told = metrics_fault(b"".join(lines[:-1]), start)
+    message = metrics_fault(b"".join(lines[:-1]), start)
     stops = "the input stops before the last line of a replay, which begins with `end`"
-    must_be("an input that stops", told, f"openmetrics: {stops}{ADVICE}\n")
-    told = metrics_fault(b"".join(lines[:2] + lines[3:]), start)
+    must_be("an input that stops", message, f"openmetrics: {stops}{ADVICE}\n")
+    message = metrics_fault(b"".join(lines[:2] + lines[3:]), start)
     shown = repr(lines[3].decode().rstrip("\n"))
-    must_be("a line less", told,
+    must_be("a line less", message,
             f"openmetrics: line 3: replay prints no such line here: {shown}{ADVICE}\n")
-    told = metrics_fault(b"end 5 ticks=0 events=0 kills=0\n", start)
-    must(told.startswith("openmetrics: no report, so there is no metric: ") and "--tick-ms" in told,
-         told)
+    message = metrics_fault(b"end 5 ticks=0 events=0 kills=0\n", start)
+    must(message.startswith("openmetrics: no report, so there is no metric: ")
+         and "--tick-ms" in message,
+         message)

@@ -1,5 +1,5 @@
-"""Checks the metrics with standard programs, if installed: with promtool, and with a Prometheus
-that loads them.
+"""Checks the metrics with promtool, and with a Prometheus that loads them, if these programs are
+installed.
 """
 from __future__ import annotations
 
@@ -28,7 +28,7 @@ PATIENCE = 60
 
 
 def is_there(program: str, what: str) -> bool:
-    """Returns whether a program is installed; if not, prints which check is skipped."""
+    """Returns whether a program is installed. If not, prints that the check is skipped."""
     if shutil.which(program):
         return True
     print(f"{program} isn't installed ({PACKAGE}): {what} is skipped")
@@ -36,7 +36,7 @@ def is_there(program: str, what: str) -> bool:
 
 
 def check_promtool_finds_nothing(program: str) -> None:
-    """promtool check metrics reports nothing. It reads only the older text format."""
+    """`promtool check metrics` reports nothing. It parses only the older text format."""
     if not is_there("promtool", "its view of the metrics"):
         return
     text = run(
@@ -64,7 +64,7 @@ def answer_of(url: str) -> Any:
 
 @contextlib.contextmanager
 def prometheus(data: str) -> Iterator[str]:
-    """Yields the address of a Prometheus server that uses this data folder and collects nothing."""
+    """Yields the address of a Prometheus server that uses this data folder and scrapes nothing."""
     with open(f"{data}/empty.yml", "wb"):
         pass
     address = f"127.0.0.1:{free_port()}"
@@ -93,16 +93,18 @@ def tail_of(data: str) -> str:
         return log.read()[-300:]
 
 
-def asked(address: str, query: str, moment: Decimal) -> Any:
-    """Returns the result of a query for the time `moment` (s)."""
-    words = urllib.parse.urlencode({"query": query, "time": str(moment)})
+def asked(address: str, query: str, time_s: Decimal) -> Any:
+    """Returns the result of a query at `time_s` (s since 1970)."""
+    words = urllib.parse.urlencode({"query": query, "time": str(time_s)})
     answer = answer_of(f"{address}/api/v1/query?{words}")
     must(bool(answer) and answer["status"] == "success", f"{query} is answered: {answer}")
     return answer["data"]["result"]
 
 
 def compare(address: str, name: str, wanted: Exposition, end: Decimal) -> None:
-    """Raises unless Prometheus has exactly the points of this family, with times to 1 ms."""
+    """Raises unless Prometheus returns exactly the points of this family. Times may differ by up to
+    1 ms.
+    """
     metrics = wanted.families[name].metrics
     found = asked(address, f"{name}_total[1h]", end + 1)
     must_be(f"metrics of {name}", len(found), len(metrics))
@@ -110,11 +112,11 @@ def compare(address: str, name: str, wanted: Exposition, end: Decimal) -> None:
         labels = {label: value for label, value in series["metric"].items() if label != "__name__"}
         points = metrics[frozenset(labels.items())]
         must_be(f"points of {labels}, how many", len(series["values"]), len(points))
-        for (at, value), (moment, number) in zip(series["values"], points):
+        for (at, value), (time_s, number) in zip(series["values"], points):
             is_near = (
-                abs(Decimal(str(at)) - moment) <= Decimal("0.001") and Decimal(value) == number
+                abs(Decimal(str(at)) - time_s) <= Decimal("0.001") and Decimal(value) == number
             )
-            must(is_near, f"{name} {labels} at {moment}: {value} at {at}, not {number}")
+            must(is_near, f"{name} {labels} at {time_s}: {value} at {at}, not {number}")
 
 
 def loaded(text: bytes, data: str) -> Exposition:

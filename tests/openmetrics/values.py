@@ -1,4 +1,4 @@
-"""Checks that the metrics contain each printed total, kill and signal, at its time."""
+"""Checks that the metrics contain each printed total, kill and signal, at the right time."""
 from __future__ import annotations
 
 import collections
@@ -56,8 +56,8 @@ def moments_of(printed: bytes, verb: str, *words: str) -> list[Decimal]:
 
 
 def compare_totals(printed: bytes, metrics: Exposition, **labels: str) -> None:
-    """Raises unless the metrics contain each printed total, under the names that other tools use,
-    and no other pressure.
+    """Raises unless the metrics contain exactly the printed totals, under the names that other
+    exporters use.
     """
     wanted: dict[str, int] = collections.defaultdict(int)
     for (path, resource, level), points in totals_of(printed).items():
@@ -75,13 +75,13 @@ def compare_totals(printed: bytes, metrics: Exposition, **labels: str) -> None:
     must_be("names of pressure, and how many metrics each has", found, dict(wanted))
 
 
-def must_count(points: list[Point], moments: list[Decimal], rounds: list[Decimal]) -> None:
-    """Raises unless a counter has a point at the start, at each event (`moments`) and at each
-    report (`rounds`), whose value is the number of events up to then.
+def must_count(points: list[Point], times: list[Decimal], rounds: list[Decimal]) -> None:
+    """Raises unless the points of a counter are exactly one at the start, one at each event and one
+    at each report. The value of a point is the number of events up to its time.
     """
-    at = sorted({EPOCH, *moments, *rounds})
+    at = sorted({EPOCH, *times, *rounds})
     must_be("a counter", points,
-            [(moment, Decimal(sum(it <= moment for it in moments))) for moment in at])
+            [(time_s, Decimal(sum(it <= time_s for it in times))) for time_s in at])
 
 
 def check_totals_of_the_story(program: str) -> None:
@@ -95,8 +95,8 @@ def check_totals_of_the_story(program: str) -> None:
 
 
 def check_the_names_are_those_of_the_field(program: str) -> None:
-    """The names of metrics are those of `prometheus-node-exporter --collector.pressure` and of
-    cAdvisor.
+    """The metrics have the names that `prometheus-node-exporter --collector.pressure` and cAdvisor
+    use.
     """
     names = set(metrics_of(story(program)).families)
     node = {"node_pressure_cpu_waiting_seconds"}
@@ -117,7 +117,7 @@ def check_the_names_are_those_of_the_field(program: str) -> None:
 def check_kills_and_signals(program: str) -> None:
     printed = run([program, *RUNAWAY[:-1], "7", "--tick-ms", "500"])
     metrics = metrics_of(printed)
-    rounds = [moment for moment, _ in totals_of(printed)["/", "io", "some"]]
+    rounds = [time_s for time_s, _ in totals_of(printed)["/", "io", "some"]]
     kills = moments_of(printed, "kill", "/batch/import", "ruleset=0", "action=0")
     must(len(kills) == 1, "the story has a kill")
     must_count(metrics.points("psi_oomd_kills_total", id="/batch/import", **KILLER), kills, rounds)
@@ -144,8 +144,8 @@ def check_names_of_rulesets(program: str) -> None:
 
 
 def check_labels(program: str) -> None:
-    """Labels given for all metrics are written, also with characters that need escapes, and so is a
-    path with a backslash whose group is removed and created again.
+    """Labels for all metrics are written with the necessary escapes. So is a path with a backslash
+    whose group is removed and created again.
     """
     words = [program, "replay", "-", "--report-s", "1"]
     printed = run(words, ODD_TRACE.encode())
@@ -190,12 +190,12 @@ def check_interrupts_of_a_replay(program: str) -> None:
     found = metrics.points("container_pressure_irq_stalled_seconds_total", id="/a")
     totals = [(2, "0.1"), (4, "0.177777"), (6, "0.177777")]
     must_be("interrupts of a group", found,
-            [(EPOCH + moment, Decimal(total)) for moment, total in totals])
+            [(EPOCH + time_s, Decimal(total)) for time_s, total in totals])
 
 
 def check_points_that_are_near(_: str) -> None:
-    """If two points are within 2 ms, the later one is kept: Prometheus truncates times to ms, and
-    rejects two points in one ms.
+    """If two points are within 2 ms, only the later one is written: Prometheus truncates times to
+    ms, and rejects two points in the same ms.
     """
     file = "".join(f"{level} avg10=0.00 avg60=0.00 avg300=0.00 total={{0}}\n" for level in WORDS)
     lines = [
@@ -215,15 +215,15 @@ def check_points_that_are_near(_: str) -> None:
 
 
 def check_the_older_text(program: str) -> None:
-    """The older text format has the same points, with the names and timestamps of earlier
-    Prometheus versions.
+    """The older text format contains the same points. Its timestamps are in ms, and its metadata
+    names end with `_total`.
     """
     old = run(
         [OPENMETRICS, "--start", START, "--format=prometheus"], story(program)
     ).decode().splitlines()
     new = run([OPENMETRICS, "--start", START], story(program)).decode().splitlines()
     samples = [line.rsplit(" ", 1) for line in new if not line.startswith("#")]
-    wanted = [f"{front} {int(Decimal(moment) * 1000)}" for front, moment in samples]
+    wanted = [f"{front} {int(Decimal(time_s) * 1000)}" for front, time_s in samples]
     must_be("points", [line for line in old if not line.startswith("#")], wanted)
     about = [line.split(" ", 3) for line in new if line.startswith(("# TYPE", "# HELP"))]
     lines = [f"# {what} {name}_total {text}" for _, what, name, text in about]

@@ -1,4 +1,4 @@
-"""Checks recordings with lost events, and damaged recordings."""
+"""Checks of recordings with lost events, and of damaged recordings."""
 from __future__ import annotations
 
 import functools
@@ -14,13 +14,13 @@ from shared.stored import (
 )
 
 MISSED = 1 << 31
-# The options of replays with a tick every second.
+# The options for a replay with a tick every second.
 TICKS = ("--tick-ms", "1000")
 
 
 def check_lost_events(program: str) -> None:
-    """Nothing is written for a recording with losses; --force writes the longest interval without a
-    loss.
+    """Nothing is written for a recording with losses. With --force, the longest interval without a
+    loss is converted.
     """
     with recording("mixlost") as folder, tempfile.TemporaryDirectory() as place:
         output = os.path.join(place, "x.trace")
@@ -41,8 +41,8 @@ def check_lost_events(program: str) -> None:
 
 
 def flag_first_page(data: bytes, pages: int) -> bytes:
-    """Returns pages of a ring buffer whose first pages were overwritten: the next page's header
-    says that events before the page were lost.
+    """Returns the pages of a ring buffer whose first pages were overwritten. The header of the next
+    page says that events before it were lost.
     """
     rest = bytearray(data[pages * PAGE :])
     struct.pack_into("<Q", rest, 8, struct.unpack_from("<Q", rest, 8)[0] | MISSED)
@@ -50,8 +50,8 @@ def flag_first_page(data: bytes, pages: int) -> bytes:
 
 
 def check_a_ring(program: str) -> None:
-    """The trace of a flight recorder's ring buffer begins when all processors have events, has no
-    loss, and agrees with the machine's pressure files.
+    """The trace of a flight recording begins when all processors have events. It has no loss, and
+    agrees with the machine's pressure files.
     """
     with recording("mix-2") as folder:
         for processor, pages in ((0, 150), (1, 60)):
@@ -73,13 +73,13 @@ def check_a_ring(program: str) -> None:
 
 
 def replaced(old: bytes, new: bytes, data: bytes) -> bytes:
-    """Returns `data` with `new` in place of `old`, which must occur exactly once."""
+    """Returns `data` with `old` replaced by `new`. `old` must occur exactly once."""
     return data.replace(old, new)
 
 
 def check_losses_without_pages(_: str) -> None:
-    """Losses that only the file `meta` lists are reported: a processor's last events, losses at an
-    unknown time, and a full disk.
+    """Losses are reported even if only the file `meta` lists them: the last events of a processor,
+    losses at an unknown time, and a full disk.
     """
     edits = (
         (b"cpu1 overrun: 0", b"cpu1 overrun: 7", "lost: cpu 1: 7 events, between 10.0"),
@@ -88,11 +88,11 @@ def check_losses_without_pages(_: str) -> None:
         (b"cpu0 dropped events: 0", b"cpu0 dropped events: 3",
          "lost: cpu 0: 3 events by 'dropped events', nobody knows when"),
     )
-    for before, after, told in edits:
+    for before, after, message in edits:
         with recording("exec-2") as folder:
             change(folder, "meta", functools.partial(replaced, before, after))
             done = converted(folder, status=3)
-            must(told in done.said and not done.output, f"{after!r}: {done.said}")
+            must(message in done.said and not done.output, f"{after!r}: {done.said}")
             must(len(converted(folder, "--force", status=3).output) > 10**5,
                  f"{after!r}: most can be had by force")
     with recording("exec-2") as folder:
@@ -102,8 +102,8 @@ def check_losses_without_pages(_: str) -> None:
 
 
 def check_a_killed_recorder(program: str) -> None:
-    """The recording of a killed recorder is read only with --force, up to the last time at which
-    all processors have events.
+    """If the recorder was killed, the recording is converted only with --force, until the last time
+    at which all processors have events.
     """
     with recording("exec-2") as folder:
         change(folder, "meta", lambda it: b"recording 1\n" + it[: it.index(b"stats")])
@@ -118,7 +118,7 @@ def check_a_killed_recorder(program: str) -> None:
 
 
 def check_unreadable_folders(_: str) -> None:
-    """A file that can't be read is reported by name."""
+    """If a file can't be read, the message has its name."""
     edits = (
         ("meta", lambda it: it.replace(b"cpus 2", b"cpus x"), "meta: "),
         ("meta", lambda it: b"recording 3\n" + it, "version 3"),
@@ -129,11 +129,12 @@ def check_unreadable_folders(_: str) -> None:
         ("cpu0.raw", lambda it: it[:8] + b"\xff\xff\xff\x00" + it[12:], "cpu0.raw: "),
         ("cpu0.raw", lambda it: b"\xff" * len(it), "cpu0.raw: "),
     )
-    for name, edit, told in edits:
+    for name, edit, message in edits:
         with recording("exec-2") as folder:
             change(folder, name, edit)
             done = tool("psitrace", folder)
-            must_be(f"{name} changed: {done.said}", (done.status, done.output, told in done.said),
+            must_be(f"{name} changed: {done.said}",
+                    (done.status, done.output, message in done.said),
                     (2, b"", True))
     for name in ("meta", "formats", "snapshot", "cpu1.raw"):
         with recording("exec-2") as folder:

@@ -1,1 +1,2 @@
-"""Checks of tools/record, the recorder, each with a folder in place of the machine."""
+"""Checks of tools/record, the recorder. They use a folder of plain files in place of the machine.
+"""

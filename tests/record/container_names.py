@@ -1,4 +1,4 @@
-"""Checks of container names in a recording."""
+"""Checks of the container names that are stored in a recording."""
 from __future__ import annotations
 
 import json
@@ -34,8 +34,8 @@ WANTED = [
 
 
 def make_machine(top: str, group: str, command: str, script: str) -> None:
-    """Makes a machine with this group, and installs a stub script under the name of a command that
-    lists containers.
+    """Makes a machine with this group. Installs a stub under the name of a command that lists
+    containers.
     """
     folder.make_machine(top)
     if group:
@@ -46,7 +46,7 @@ def make_machine(top: str, group: str, command: str, script: str) -> None:
 
 
 def asked(top: str, command: str) -> list[str]:
-    """Returns the arguments of each call of the command."""
+    """Returns the arguments of each call of the stub."""
     name = f"{top}.bin/{command}.words"
     if not os.path.exists(name):
         return []

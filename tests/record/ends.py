@@ -1,4 +1,4 @@
-"""Checks how a recording ends, and which files remain."""
+"""Checks how a recording ends, and which files remain then."""
 from __future__ import annotations
 
 import contextlib
@@ -52,10 +52,10 @@ def check_killed_and_started_again(top: str) -> None:
         folder.make_machine(f"{top}{number}")
         before = folder.listing(f"{top}{number}")
         run = Run(f"{top}{number}", *words)
-        left = run.instance()
+        instance = run.instance()
         run.child.kill()
         run.child.communicate()
-        must(os.path.exists(left), "a killed recorder leaves its instance")
+        must(os.path.exists(instance), "a killed recorder leaves its instance")
         must("end" not in run.file("meta").decode().splitlines()[-1].split()[0], "and no last line")
         again = Run(
             f"{top}{number}", "--seconds", "0.3", name="again"

@@ -1,4 +1,6 @@
-"""Checks of the flight recorder, which keeps only the latest events until pressure is signalled."""
+"""Checks of the flight recorder, which keeps only the latest events until the kernel signals
+pressure.
+"""
 from __future__ import annotations
 
 import os
@@ -15,7 +17,7 @@ UNTIL = ("--ring", "--until", "memory full 100000 1000000")
 
 
 def fire(top: str) -> None:
-    """Makes the machine signal pressure."""
+    """Signals pressure on the imitated machine."""
     with open(f"{top}/trigger", "wb", buffering=0) as trigger:
         trigger.write(b"x")
 
@@ -58,7 +60,7 @@ def check_ring_that_is_stopped(top: str) -> None:
 
 
 def check_ring_where_the_buffers_begin(top: str) -> None:
-    """The events of processor 1 were overwritten until just after the first snapshot, so the
+    """If the events of a processor were overwritten until just after the first snapshot, the
     recorder must keep a later snapshot.
     """
     folder.make_machine(top)
@@ -74,13 +76,15 @@ def check_ring_where_the_buffers_begin(top: str) -> None:
     run.child.terminate()
     run.ended(0)
     must_be("where the buffers begin", run.values("ring-start"), [begin])
-    moment = int(run.file("snapshot").split()[1])
-    must(moment >= float(begin) * 1e9, f"the snapshot lies inside: {moment}")
+    time_ns = int(run.file("snapshot").split()[1])
+    must(time_ns >= float(begin) * 1e9, f"the snapshot lies inside: {time_ns}")
     must_be("and is inside by the markers", read(f"{top}.markers").count("snapshot begin"), 2)
 
 
 def check_ring_that_was_too_small(top: str) -> None:
-    """A signal whose events are overwritten before the recording ends is reported."""
+    """If the events at the pressure signal are overwritten before the recording ends, the recorder
+    reports that.
+    """
     start = time.monotonic()
     folder.make_machine(top, overrun=7, oldest=f"{start + 60:.6f}")
     run = Run(top, *UNTIL, "--after-s", "0.3")
@@ -91,8 +95,8 @@ def check_ring_that_was_too_small(top: str) -> None:
 
 
 def check_ring_that_was_not_overwritten(top: str) -> None:
-    """If nothing was overwritten, the oldest event of an idle processor doesn't limit the
-    recording.
+    """If nothing was overwritten, the oldest event of an idle processor doesn't limit the start of
+    the recording.
     """
     start = time.monotonic()
     folder.make_machine(top, oldest=f"{start + 60:.6f}")

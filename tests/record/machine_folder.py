@@ -47,18 +47,18 @@ SwapTotal:       500 kB
 SwapFree:        200 kB
 """
 GROUPS = ("", "/system.slice", "/system.slice/web.service", "/user slice")
-# For each thread its number, its process number, its state, its processor, its name and its group.
+# Each thread's number, process number, state, processor, name and group.
 THREADS = (
     (1, 1, "S", 0, "init", ""),
     (101, 101, "R", 1, "web) S 9 (x", "/system.slice/web.service"),
     (102, 101, "D", 0, "two\nlines", "/system.slice/web.service"),
 )
-# The bit offsets of in_iowait and pid in this machine's task_struct. A probe reads the fields at
-# these offsets.
+# The offsets (bits) of the members in_iowait and pid in this machine's task_struct. A probe reads
+# the members at these offsets.
 WAIT_BIT, PID_BIT = 9544, 10112
 FETCHED = "pid=+1264($arg1):s32 io=+1192($arg1):b1@8/32"
-# The kernel functions that get probes, with the numbers of their parameters, which the recorder
-# checks first.
+# The kernel functions that get probes, with the number of parameters of each. The recorder checks
+# the numbers before it adds a probe.
 FUNCTIONS = {"cgroup_attach_task": 3, "psi_show": 3, "psi_avgs_work": 1, "psi_task_change": 3}
 
 
@@ -70,10 +70,10 @@ def write(path: str, text: str | bytes) -> None:
 
 
 def kernel_types(wait_name: str = "in_iowait", functions: dict[str, int] = FUNCTIONS) -> bytes:
-    """Returns type information of a kernel in the format of Documentation/bpf/btf.rst: a structure
-    that contains the number of the name only elsewhere, a structure of the right name without the
-    members, and the right structure; then functions with these numbers of parameters, each before
-    its prototype.
+    """Returns a kernel's type information in the format of Documentation/bpf/btf.rst. It contains
+    two misleading structures, the right structure, and functions with these numbers of parameters,
+    each before its prototype. One misleading structure contains the number of the right name, and
+    the other has the right name but not the members.
     """
     names, text = {}, b"\0"
     for name in ("int", "task_struct", "other", "pid", wait_name, *functions):
@@ -102,8 +102,8 @@ def kernel_types(wait_name: str = "in_iowait", functions: dict[str, int] = FUNCT
 
 
 def make_pages(top: str, processor: int, pages: bytes) -> None:
-    """Writes the pages of a processor's events. Many pages are written outside of tracefs, so that
-    a new tracing instance has no copy of them.
+    """Writes a processor's pages. A large number of pages is written outside of the tracefs folder,
+    so that a new tracing instance doesn't copy them.
     """
     buffer = f"{top}/tracing/per_cpu/cpu{processor}/trace_pipe_raw"
     if len(pages) < MANY_BYTES:
@@ -114,8 +114,8 @@ def make_pages(top: str, processor: int, pages: bytes) -> None:
 
 
 def make_tracing(top: str, overrun: int, oldest: str, pages: int) -> None:
-    """Writes the files of tracefs for two processors. `oldest` is the time (s) of the oldest event,
-    `overrun` the number of overwritten events.
+    """Writes the tracefs files of two processors. `oldest` is the time of the oldest event (s), and
+    `overrun` is the number of overwritten events.
     """
     tracing = f"{top}/tracing"
     os.makedirs(f"{tracing}/instances")
@@ -137,7 +137,8 @@ def make_tracing(top: str, overrun: int, oldest: str, pages: int) -> None:
         write(f"{tracing}/per_cpu/cpu{processor}/stats",
               STATS.format(overrun=overrun if processor else 0, oldest=oldest))
         make_pages(top, processor, bytes([processor + 1]) * (PAGE_BYTES * pages))
-    # The markers must outlive the tracing instance, so they are written to another file.
+    # The file of markers must still exist after the tracing instance is removed, so it is outside
+    # of the tracefs folder.
     write(f"{top}.markers", "")
     os.symlink(f"{top}.markers", f"{tracing}/trace_marker")
 
@@ -178,8 +179,8 @@ def make_processes(top: str) -> None:
 
 
 def make_machine(top: str, overrun: int = 0, oldest: str = "1.000000", pages: int = 1) -> None:
-    """Writes a whole machine into the folder `top`. Each processor has `pages` pages of events, and
-    the second one has lost `overrun` events.
+    """Writes a whole machine into the folder `top`. Each processor has `pages` pages of events. The
+    second processor has lost `overrun` events.
     """
     make_tracing(top, overrun, oldest, pages)
     make_groups(top)
@@ -189,8 +190,8 @@ def make_machine(top: str, overrun: int = 0, oldest: str = "1.000000", pages: in
 
 
 def listing(top: str) -> dict[str, tuple[int, str | bytes | None]]:
-    """Returns the contents of the folder: the mode of each path, and the file's bytes or the link's
-    target.
+    """Returns the contents of the folder by path: the mode of each file, and its bytes or the
+    target of the link.
     """
     found: dict[str, tuple[int, str | bytes | None]] = {}
     for folder, folders, files in os.walk(top):

@@ -1,4 +1,4 @@
-"""Checks of systemd-oomd's settings in a recording."""
+"""Checks of the settings of systemd-oomd that are stored in a recording."""
 from __future__ import annotations
 
 import os
@@ -46,7 +46,7 @@ LEFT = {
 
 
 def make_booted(top: str) -> None:
-    """Makes a machine that was booted with systemd."""
+    """Makes a machine that runs systemd."""
     folder.make_machine(top)
     for name, text in {**STORED, DATABASE: SECRET, **LEFT}.items():
         folder.write(f"{top}/{name}", text)

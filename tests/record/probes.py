@@ -1,4 +1,4 @@
-"""Checks of kernel probes, and of the fallback if they aren't available."""
+"""Checks of kernel probes, and of what the recorder does if a probe isn't available."""
 from __future__ import annotations
 
 import os
@@ -18,8 +18,8 @@ PROBES = (
     "psh psi_show group=$arg2:x64 res=$arg3:u32",
     "pav psi_avgs_work work=$arg1:x64",
 )
-# Messages about functions whose parameters aren't as expected, and the probes that are omitted for
-# that reason.
+# For each function whose parameters differ from the expected ones: the probes that the message
+# names, and how many probes are omitted.
 BOTH = "psi_show, psi_avgs_work"
 MISSING = {
     "cgroup_attach_task": ("cgroup_attach_task", 1), "psi_show": (BOTH, 2),
@@ -27,9 +27,9 @@ MISSING = {
 }
 
 
-def by_statistics(run: Run, told: list[str], old: bytes = b"0\n") -> None:
-    """Raises unless waits for IO come from the kernel's delay statistics, which are on only during
-    the recording.
+def by_statistics(run: Run, messages: list[str], old: bytes = b"0\n") -> None:
+    """Raises unless waits for IO are recorded from the kernel's delay statistics. The statistics
+    must be on during the recording and off afterwards.
     """
     instance = run.instance()
     must_be("the sysctl meanwhile", read(f"{run.top}/proc/sys/kernel/sched_schedstats"), "1\n")
@@ -39,7 +39,8 @@ def by_statistics(run: Run, told: list[str], old: bytes = b"0\n") -> None:
     run.child.terminate()
     run.ended(0).says("waits for IO are told by sched_stat_iowait")
     must("sched/sched_stat_iowait" in run.values("event"), "the event is on")
-    must_be("probes that aren't there", [it.split(":")[0] for it in run.values("no-probe")], told)
+    must_be("probes that aren't there", [it.split(":")[0] for it in run.values("no-probe")],
+            messages)
 
 
 def check_no_kprobes(top: str) -> None:
@@ -147,7 +148,8 @@ def check_wakeups_without_probes(top: str) -> None:
 
 
 def by_state(run: Run, reason: str) -> None:
-    """Raises unless waits for IO come from the task's state alone, and a message gives this reason.
+    """Raises unless waits for IO are derived only from the states of tasks, and a message states
+    the reason.
     """
     run.ended(0).says(STATE_TOLD, "up to 3.5 times too many")
     must("sched/sched_stat_iowait" not in run.values("event"), "the event isn't on")

@@ -17,23 +17,24 @@ TOP = os.path.dirname(os.path.dirname(os.path.dirname(os.path.abspath(__file__))
 RECORD = os.path.join(os.environ.get("RECORD_TOOLS", os.path.join(TOP, "tools")), "record")
 
 
-# ---------------------------------------------------------------- runs
+# ---------------------------------------------------------------- running the recorder
 
 
-# A process started by nohup ignores SIGHUP, and a recorder inherits that. So the signal is reset
+# A process that nohup starts ignores SIGHUP, and a recorder inherits that. So the signal is reset
 # here; nohup has its own check.
 signal.signal(signal.SIGHUP, signal.SIG_DFL)
 
-# The longest time (s) that a recorder may take to begin, to print a line or to end. It is long,
-# since other programs may use the machine.
+# The timeout (s) for a recorder to begin, to print a line or to end. It is long because other
+# programs may use the machine.
 WAIT_S = 120
 
-# The running recorders, by the folder of the recording.
+# The running recorders, by the folders of their recordings.
 STARTED: dict[str, subprocess.Popen[str]] = {}
 
 
 def end_all(scratch: str) -> None:
-    """Ends the recorders of a failed check: those whose recordings are below the folder `scratch`.
+    """Kills the recorders of a failed check. These are the recorders whose recordings are below the
+    folder `scratch`.
     """
     for out in [it for it in STARTED if it.startswith(f"{scratch}/")]:
         child = STARTED.pop(out)
@@ -43,7 +44,7 @@ def end_all(scratch: str) -> None:
 
 
 class Run:
-    """A recorder that runs on a folder in place of the machine, with the results of its run."""
+    """A recorder that runs on a folder in place of the machine, and the results of its run."""
 
     def __init__(
         self, top: str, *words: str, name: str = "out", prefix: tuple[str, ...] = ()
@@ -57,8 +58,8 @@ class Run:
         STARTED[self.out] = self.child
 
     def ended(self, status: int, is_same: bool = True) -> Run:
-        """Waits until the recorder ends, and raises unless its status is `status` and, if
-        `is_same`, the machine's folder is unchanged.
+        """Waits until the recorder ends. Raises unless the exit status is `status`, and the
+        machine's folder is unchanged if `is_same`.
         """
         try:
             printed, self.said = self.child.communicate(timeout=WAIT_S)
@@ -75,7 +76,7 @@ class Run:
         return self
 
     def killed(self, fault: str) -> Wrong:
-        """Kills the recorder, and returns an error with its command, this fault and its output."""
+        """Kills the recorder. Returns an error with its command, the fault and its output."""
         self.child.kill()
         _, said = self.child.communicate()
         return Wrong(f"`{shlex.join(self.command)}` {fault}; it printed {said!r}")
@@ -99,8 +100,7 @@ class Run:
         return [it.partition(" ")[2] for it in lines if it.partition(" ")[0] == key]
 
     def instance(self) -> str:
-        """Waits until the recorder has made its tracing instance, and returns the instance's
-        folder.
+        """Waits until the recorder has created its tracing instance. Returns the instance's folder.
         """
         waited = time.monotonic() + WAIT_S
         while time.monotonic() < waited and self.child.poll() is None:
@@ -115,7 +115,8 @@ class Run:
 
 @contextlib.contextmanager
 def awaited(child: subprocess.Popen[str]) -> Iterator[None]:
-    """Kills a recorder that doesn't print in time, so that a read of its output ends."""
+    """Kills the recorder if it doesn't print in time, so that a read of its output doesn't block.
+    """
     timer = threading.Timer(WAIT_S, child.kill)
     timer.start()
     try:
@@ -125,7 +126,7 @@ def awaited(child: subprocess.Popen[str]) -> Iterator[None]:
 
 
 def read(path: str) -> str:
-    """Returns the text of a file; empty if the file doesn't exist."""
+    """Returns the text of a file, or '' if the file doesn't exist."""
     with contextlib.suppress(OSError), open(
         path, encoding="utf-8", errors="surrogateescape"
     ) as file:

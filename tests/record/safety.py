@@ -1,5 +1,5 @@
-"""Checks who may read a recording, what happens if its folder is replaced during the recording, and
-what a killed recorder leaves.
+"""Checks who may read a recording, what happens if the recording's folder is replaced by another
+file, and what remains of a killed recorder.
 """
 from __future__ import annotations
 
@@ -32,7 +32,7 @@ def module(name: str) -> Any:
 
 
 def modes(top: str) -> set[str]:
-    """Returns the modes of a folder and of everything below it."""
+    """Returns the modes of a folder and of all files and folders in it."""
     found = [top, *(f"{at}/{it}" for at, folders, files in os.walk(top) for it in folders + files)]
     return {stat.filemode(os.lstat(it).st_mode) for it in found}
 
@@ -51,49 +51,50 @@ def check_only_its_owner_reads_it(top: str) -> None:
 
 
 def swapped(top: str, is_swapped: Callable[[str], None]) -> tuple[Any, str]:
-    """Moves a recorder's folder to another path, and lets `is_swapped` put something at the old
-    path. Returns the recorder's folder object and the new path.
+    """Moves a recorder's folder to another path, and calls `is_swapped` with the old path. Returns
+    the recorder's folder object and the new path.
     """
     os.makedirs(top)
-    made = module("folder").Folder(f"{top}/out")
+    recording = module("folder").Folder(f"{top}/out")
     os.rename(f"{top}/out", f"{top}/elsewhere")
     is_swapped(f"{top}/out")
-    return made, f"{top}/elsewhere"
+    return recording, f"{top}/elsewhere"
 
 
 def check_a_swapped_folder_is_not_emptied(top: str) -> None:
     os.makedirs(f"{top}/precious/inner")
     for name in ("a", "inner/b"):
         folder.write(f"{top}/precious/{name}", "x")
-    made, elsewhere = swapped(f"{top}/link", lambda path: os.symlink("../precious", path))
-    made.close_files()
+    recording, elsewhere = swapped(f"{top}/link", lambda path: os.symlink("../precious", path))
+    recording.close_files()
     with contextlib.suppress(OSError):
-        made.discard()
+        recording.discard()
     must_be("what somebody else has",
             sorted(os.listdir(f"{top}/precious")) + os.listdir(f"{top}/precious/inner"),
             ["a", "inner", "b"])
     must_be("what is left of the recording", os.listdir(elsewhere), [])
     must(os.path.islink(f"{top}/link/out"), "the link is somebody's own")
-    made, _ = swapped(f"{top}/folder", os.mkdir)
-    made.close_files()
-    made.discard()
+    recording, _ = swapped(f"{top}/folder", os.mkdir)
+    recording.close_files()
+    recording.discard()
     must(os.path.isdir(f"{top}/folder/out"), "another folder is somebody's own")
 
 
 def check_a_swapped_folder_is_not_written(top: str) -> None:
     os.makedirs(f"{top}/precious")
-    made, elsewhere = swapped(f"{top}/link", lambda path: os.symlink("../precious", path))
-    made.open_raw(1)
-    made.append_pages(0, b"\1" * 4096)
-    made.write_below("systemd/etc/oomd.conf", b"[OOM]\n")
-    made.close()
+    recording, elsewhere = swapped(f"{top}/link", lambda path: os.symlink("../precious", path))
+    recording.open_raw(1)
+    recording.append_pages(0, b"\1" * 4096)
+    recording.write_below("systemd/etc/oomd.conf", b"[OOM]\n")
+    recording.close()
     must_be("what somebody else has", os.listdir(f"{top}/precious"), [])
     must_be("the recording", sorted(os.listdir(elsewhere)),
             ["cpu0.raw", "meta", "pressure", "systemd"])
 
 
 def check_links_are_not_compressed(top: str) -> None:
-    """A link in place of a file of the recording is neither read nor written."""
+    """If a file of the recording is replaced by a link, the recorder neither reads nor writes it.
+    """
     folder.write(f"{top}/shadow", "secret\n")
     folder.write(f"{top}/victim", "to be kept\n")
     compressing = module("compressing")
@@ -118,8 +119,8 @@ def check_links_are_not_compressed(top: str) -> None:
 
 
 def left_of(top: str, number: int, start: str) -> list[str]:
-    """Creates a tracing instance and a probe of a recorder with this process number and start time.
-    Returns their names.
+    """Creates the tracing instance and the probe of a recorder with this process number and start
+    time. Returns their names.
     """
     name = f"psirec{number}_{start}"
     os.mkdir(f"{top}/tracing/instances/{name}")
@@ -130,8 +131,8 @@ def left_of(top: str, number: int, start: str) -> list[str]:
 
 
 def check_a_number_that_is_used_again(top: str) -> None:
-    """What a killed recorder left is removed though its process number is used again, or its parent
-    hasn't waited for it.
+    """The tracing instance and the probe of a killed recorder are removed, even if its process
+    number is used again or its parent hasn't waited for it.
     """
     folder.make_machine(top)
     before = folder.listing(top)
@@ -139,10 +140,10 @@ def check_a_number_that_is_used_again(top: str) -> None:
     for number, state in ((901, "S"), (902, "Z"), (903, "S")):
         folder.write(f"{top}/proc/{number}/stat",
                      f"{number} (a ) b) {state} {' '.join(map(str, fields))} 0 0 0\n")
-    left = left_of(top, 901, "776") + left_of(top, 902, "777")
+    leftovers = left_of(top, 901, "776") + left_of(top, 902, "777")
     alive = left_of(top, 903, "777")
     run = Run(top, "--seconds", "0.3").ended(0, is_same=False).says(
-        *(f"what it left is removed, {it}" for it in left)
+        *(f"what it left is removed, {it}" for it in leftovers)
     )
     must(not any(it in run.said for it in alive),
          f"a recorder that runs keeps what it has: {run.said}")
@@ -169,12 +170,15 @@ def check_a_ring_without_markers(top: str) -> None:
 
 
 def check_a_ring_whose_markers_end(top: str) -> None:
-    """If only the first marker is written, what was recorded up to then is kept."""
+    """If only the first marker can be written, the recorder ends with status 2 and says why. It
+    removes its tracing instance.
+    """
     folder.make_machine(top)
     reader, terminal = os.openpty()
     os.unlink(f"{top}.markers")
     os.symlink(os.ttyname(terminal), f"{top}.markers")
-    # The first read of the pressure file blocks until the markers have ended.
+    # The pressure file is a pipe. The recorder's first read of it blocks until this check has
+    # closed the terminal that receives the markers.
     pressure = f"{top}/proc/pressure/io"
     os.unlink(pressure)
     os.mkfifo(pressure)
@@ -192,14 +196,14 @@ def check_a_ring_whose_markers_end(top: str) -> None:
 
 
 def run_has_begun(reader: int) -> bool:
-    """Returns whether a marker was written."""
+    """Returns whether a marker was written since the last call."""
     with contextlib.suppress(BlockingIOError):
         return bool(os.read(reader, 1 << 16))
     return False
 
 
 def make_recordings(top: str, ages: tuple[float, ...]) -> None:
-    """Makes recordings of these ages (s) in the folder of the next recording."""
+    """Makes a recording for each age (s) in `ages`, in the parent folder of the next recording."""
     os.makedirs(f"{top}.state")
     for number, age in enumerate(ages):
         folder.write(f"{top}.state/{number}/meta", "recording 1\n")
@@ -208,7 +212,9 @@ def make_recordings(top: str, ages: tuple[float, ...]) -> None:
 
 
 def limited(top: str, limit: int) -> tuple[subprocess.Popen[str], str]:
-    """Starts a recorder that may make `limit` recordings a day, and returns it with its folder."""
+    """Starts a recorder that may make at most `limit` recordings a day. Returns the process and the
+    folder of its recording.
+    """
     out = f"{top}.state/new"
     words = [RECORD, "--root", top, out, "--seconds", "0.2", "--daily-limit", str(limit)]
     STARTED[out] = subprocess.Popen(
@@ -218,7 +224,7 @@ def limited(top: str, limit: int) -> tuple[subprocess.Popen[str], str]:
 
 
 def ended(child: subprocess.Popen[str]) -> str:
-    """Waits until the recorder ends, and returns its messages."""
+    """Waits until the recorder ends. Returns its messages."""
     try:
         return child.communicate(timeout=WAIT_S)[1]
     except subprocess.TimeoutExpired:
@@ -226,8 +232,8 @@ def ended(child: subprocess.Popen[str]) -> str:
 
 
 def check_recordings_of_a_day(top: str) -> None:
-    """The recorder waits until the fifth youngest recording is a day old, then records again,
-    repeatedly.
+    """With a limit of five a day, the recorder waits until the fifth youngest recording is a day
+    old. Then it records again.
     """
     folder.make_machine(top)
     make_recordings(top, (9 * DAY, DAY - 8, 50, 40, 30, 20, -9 * DAY))

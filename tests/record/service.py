@@ -1,5 +1,5 @@
-"""Checks of the recorder as a service: limits of recordings, a hook, metrics, the status command,
-and a trigger on one group.
+"""Checks of the recorder as a service: limits on stored recordings, a hook, metrics, the status
+command, and a trigger on a single group.
 """
 from __future__ import annotations
 
@@ -21,7 +21,7 @@ UNTIL = ("--ring", "--until", "memory full 100000 1000000", "--after-s", "0.2")
 def old_recording(
     path: str, age: float, size: int = 0, first: str = "recording 2", more: str = "end seconds\n"
 ) -> None:
-    """Makes a recording that ended `age` s ago, with a raw file of `size` bytes."""
+    """Makes a recording that ended `age` s ago, with a file of pages of `size` bytes."""
     folder.write(f"{path}/meta", f"{first}\n{more}")
     folder.write(f"{path}/cpu0.raw", bytes(size))
     os.makedirs(f"{path}/systemd/etc")
@@ -33,7 +33,7 @@ def stored(above: str) -> list[str]:
 
 
 def record(top: str, out: str, *words: str) -> subprocess.CompletedProcess[str]:
-    """Makes a whole short recording in the folder `out`, and returns the completed process."""
+    """Makes a complete short recording in the folder `out`. Returns the completed process."""
     command = [RECORD, "--root", top, out, "--seconds", "0.3", *words]
     return subprocess.run(command, stdin=subprocess.DEVNULL, capture_output=True, text=True,
                           timeout=60)
@@ -45,7 +45,7 @@ def state(*words: str) -> subprocess.CompletedProcess[str]:
 
 
 def check_keep_a_number(top: str) -> None:
-    """With --keep NUMBER, the oldest recordings beyond the number are deleted, and nothing else."""
+    """With --keep NUMBER, only the oldest recordings beyond this number are deleted."""
     folder.make_machine(top)
     above = f"{top}.above"
     for number in range(5):
@@ -59,8 +59,8 @@ def check_keep_a_number(top: str) -> None:
 
 
 def check_keep_megabytes(top: str) -> None:
-    """With a limit in megabytes, the newest recordings that fit together are kept. The new one is
-    kept even if it alone is too large.
+    """With a limit in megabytes, the newest recordings whose sizes together are within the limit
+    are kept. The new recording is kept even if it alone exceeds the limit.
     """
     folder.make_machine(top)
     above = f"{top}.above"
@@ -73,7 +73,7 @@ def check_keep_megabytes(top: str) -> None:
 
 
 def check_keep_follows_no_link(top: str) -> None:
-    """Files outside of a deleted recording are kept, even if the recording has links to them."""
+    """If a deleted recording contains links, the targets of the links aren't deleted."""
     folder.make_machine(top)
     above = f"{top}.above"
     old_recording(f"{above}/r0", 1000)
@@ -100,13 +100,13 @@ def check_keep_spares_one_that_is_written(top: str) -> None:
     old_recording(f"{above}/r1", 500)
     record(top, f"{above}/new", "--keep", "1")
     must_be("what is left", stored(above), ["new", "written"])
-    told = state(above)
+    status = state(above)
     must(
         re.search(
             r"^recording now: written, since 20\S+ \S+ UTC; waits for memory full 100000 1000000$",
-            told.stdout, re.M,
+            status.stdout, re.M,
         ),
-        told.stdout,
+        status.stdout,
     )
     run.child.terminate()
     run.child.wait(WAIT_S)
@@ -114,7 +114,7 @@ def check_keep_spares_one_that_is_written(top: str) -> None:
 
 
 def check_status(top: str) -> None:
-    """The status command lists each recording, with its losses and the reason of its end."""
+    """The status command lists each recording with its losses and with the reason why it ended."""
     above = f"{top}.above"
     old_recording(f"{above}/b", 10, 2 * MEGABYTE,
                   more="stats cpu0 overrun: 7\nstats cpu0 dropped events: 5\nend max-mb\n")
@@ -134,7 +134,9 @@ def check_status(top: str) -> None:
 
 
 def values(text: str) -> dict[str, float]:
-    """Returns the samples of a textfile, and raises unless each follows its HELP and TYPE lines."""
+    """Returns the samples of a metrics file. Raises unless each sample follows its HELP and TYPE
+    lines.
+    """
     lines, found = text.splitlines(), {}
     for help_, kind, sample in zip(lines[::3], lines[1::3], lines[2::3]):
         name = sample.partition("{")[0]
@@ -145,7 +147,7 @@ def values(text: str) -> dict[str, float]:
 
 
 def check_textfile(top: str) -> None:
-    """The metrics of the folder are right, during a recording and after it."""
+    """The folder's metrics are right during a recording and after it."""
     above, file = f"{top}.above", f"{top}.prom"
     old_recording(f"{above}/a", 20, MEGABYTE, more="stats cpu0 overrun: 7\nend seconds\n")
     folder.make_machine(top)
@@ -181,8 +183,8 @@ def make_hook(top: str, lines: str) -> str:
 
 
 def check_hook(top: str) -> None:
-    """The hook gets the folder's name when the recording is complete. A failure of the hook changes
-    nothing.
+    """After a recording is complete, the hook is called with its folder. A failure of the hook has
+    no effect.
     """
     folder.make_machine(top)
     hook = make_hook(top, f'tail -1 "$1/meta" >"{top}.said"; echo "$1" >>"{top}.said"; exit 7')
@@ -193,7 +195,7 @@ def check_hook(top: str) -> None:
 
 
 def check_hook_that_others_write(top: str) -> None:
-    """A recorder that runs as root refuses a hook that other users may change."""
+    """A recorder that runs as root rejects a hook that other users can change."""
     folder.make_machine(top)
     hook = make_hook(top, "true")
     os.chmod(hook, 0o777)
@@ -204,7 +206,7 @@ def check_hook_that_others_write(top: str) -> None:
 
 
 def check_hook_and_a_signal(top: str) -> None:
-    """A signal to the recorder ends a hook that doesn't end by itself."""
+    """If the recorder gets a signal while a hook runs, the hook is ended."""
     folder.make_machine(top)
     hook = make_hook(top, f'echo >"{top}.began"; exec sleep 600')
     command = [RECORD, "--root", top, f"{top}.out", "--seconds", "0.3", "--hook", hook]
@@ -221,7 +223,7 @@ def check_hook_and_a_signal(top: str) -> None:
 
 
 def check_trigger_of_a_group(top: str) -> None:
-    """The trigger is on one group's pressure, and `meta` says so."""
+    """With --group, the trigger is on the pressure of this group, and `meta` names the group."""
     folder.make_machine(top)
     run = Run(top, *UNTIL, "--group", GROUP)
     run.instance()
@@ -236,7 +238,7 @@ def fire(top: str) -> None:
 
 
 def wait_for(run: Run, text: str) -> None:
-    """Reads standard error up to a line that contains this text."""
+    """Reads the recorder's standard error until a line contains this text."""
     assert run.child.stderr
     with awaited(run.child):
         printed: list[str] = []
@@ -248,8 +250,8 @@ def wait_for(run: Run, text: str) -> None:
 
 
 def check_trigger_of_a_group_that_comes_later(top: str) -> None:
-    """The recorder waits for a group that doesn't exist yet. Pressure signalled before the group
-    exists doesn't count.
+    """If the group doesn't exist yet, the recorder waits until it is created. Then a signal about
+    the group's pressure ends the recording.
     """
     folder.make_machine(top)
     run = Run(top, *UNTIL, "--group", "/later")
@@ -263,7 +265,7 @@ def check_trigger_of_a_group_that_comes_later(top: str) -> None:
 
 
 def check_trigger_of_a_group_that_is_removed(top: str) -> None:
-    """While the watched group is removed, nothing is signalled. When the group is created again,
+    """Nothing is signalled while the watched group doesn't exist. When the group is created again,
     the trigger works again.
     """
     folder.make_machine(top)

@@ -1,5 +1,5 @@
-"""Checks cases in which nothing is recorded, because something is missing or the arguments are
-wrong.
+"""Checks of cases in which nothing is recorded, because a requirement is missing or the arguments
+are wrong.
 """
 from __future__ import annotations
 

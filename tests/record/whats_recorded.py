@@ -121,7 +121,7 @@ pressure 1 begin
 pressure 1 end
 stop
 """
-    # Each marker is written by one write without a newline.
+    # Each marker is written by a single write, without a newline.
     must_be("the markers", read(f"{run.top}.markers").split("psirec "), ["", *wanted.splitlines()])
 
 
@@ -158,13 +158,13 @@ def check_accounting_changes(top: str) -> None:
 
 
 def changes_of_accounting(top: str) -> list[str]:
-    """Returns the changes of `cgroup.pressure` in the markers."""
+    """Returns the markers about changes of `cgroup.pressure`."""
     return re.findall(r"accounting (\S+ (?:on|off))", read(f"{top}.markers"))
 
 
 def check_an_unaccounted_group_that_comes_again(top: str) -> None:
-    """A group that is created again is accounted until its own accounting is switched off, even if
-    no sample saw the removal. The files change at once, by a rename, so that each sample finds
+    """A group that is removed and created again is accounted until its new accounting is switched
+    off, even if no sample saw the removal. The files change by a rename, so that each sample finds
     either the old folder or the new one.
     """
     folder.make_machine(top)
@@ -182,8 +182,8 @@ def check_an_unaccounted_group_that_comes_again(top: str) -> None:
 
 
 def check_accounting_without_its_file(top: str) -> None:
-    """A group that disappears while its file is read isn't reported as accounted. Before Linux 6.1
-    the file doesn't exist, and nothing is reported.
+    """If a group disappears while its file is read, it isn't reported as accounted. On kernels
+    before Linux 6.1 the file doesn't exist, and nothing is reported.
     """
     folder.make_machine(top)
     run = Run(top, "--seconds", "1", "--memory-s", "0.1")
@@ -199,8 +199,8 @@ def check_accounting_without_its_file(top: str) -> None:
 
 
 def check_a_busy_processor(top: str) -> None:
-    """Each read takes 64 KiB, which is much for a buffer of that size, so 8 MB take 2.5 s instead
-    of 30 s.
+    """If a read returns a large part of the buffer, the recorder reads again soon. With a buffer of
+    64 KiB, 8 MB take 2.5 s instead of 30 s.
     """
     folder.make_machine(top, pages=2000)
     run = Run(top, "--buffer-kb", "64")

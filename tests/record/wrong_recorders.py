@@ -1,5 +1,5 @@
-"""Lists wrong recorders: each edit of tools/psirecord makes one, and a check of tests/record must
-detect it.
+"""Mutation tests of the recorder: each edit introduces a fault into tools/psirecord, and a check of
+tests/record must detect the fault.
 """
 from __future__ import annotations
 
@@ -12,7 +12,7 @@ import tempfile
 
 Edit = tuple[str, str, str, str]
 
-# For each edit: the file, the original text, the wrong recorder's text, and the check that must
+# Edits of the recorder: the file, the original text, the text in its place, and the check that must
 # fail.
 EDITS: tuple[Edit, ...] = (
     ("command.py", "    if missing:", "    if False:", "nothing_is_there"),
@@ -143,7 +143,7 @@ EDITS: tuple[Edit, ...] = (
 
 
 def edited(top: str, edit: Edit) -> str | None:
-    """Returns the file's text after this edit, or None if the original text doesn't occur exactly
+    """Returns the file's text after an edit, or None if the original text doesn't occur exactly
     once.
     """
     with open(f"{top}/tools/psirecord/{edit[0]}", encoding="utf-8") as file:
@@ -152,7 +152,7 @@ def edited(top: str, edit: Edit) -> str | None:
 
 
 def is_found(top: str, edit: Edit) -> bool:
-    """Returns whether the check fails on the wrong recorder."""
+    """Returns whether the check fails for the edited recorder."""
     with tempfile.TemporaryDirectory(prefix="wrong") as scratch:
         shutil.copytree(f"{top}/tools", f"{scratch}/tools")
         with open(f"{scratch}/tools/psirecord/{edit[0]}", "w", encoding="utf-8") as file:
@@ -166,14 +166,15 @@ def is_found(top: str, edit: Edit) -> bool:
 
 
 def main(top: str, cases: list[str]) -> int:
-    """Tries each edit, and returns the exit status."""
+    """Runs the check of each edit. Returns the exit status."""
     stale = [edit for edit in EDITS if edit[3] not in cases or edited(top, edit) is None]
     tried = [edit for edit in EDITS if edit not in stale]
     with concurrent.futures.ThreadPoolExecutor(2) as pool:
         found = list(pool.map(lambda edit: is_found(top, edit), tried))
     missed = [edit for edit, is_told in zip(tried, found) if not is_told]
-    for told, edits in (("no case finds it", missed), ("its text or its case isn't there", stale)):
+    for reason, edits in (("no case finds it", missed),
+                          ("its text or its case isn't there", stale)):
         for edit in edits:
-            print(f"{told}: {edit[0]}: {edit[1]} -> {edit[2]}")
+            print(f"{reason}: {edit[0]}: {edit[1]} -> {edit[2]}")
     print(f"record: {len(EDITS)} wrong recorders, {len(missed) + len(stale)} not found")
     return 1 if missed or stale else 0

@@ -1,1 +1,1 @@
-"""Checks of tools/report, which makes a page about an incident."""
+"""Checks of tools/report, which makes a web page about an incident."""

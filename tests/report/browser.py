@@ -1,4 +1,4 @@
-"""Drives headless Chromium through its debugging protocol, for checks of pages."""
+"""Controls headless Chromium through its debugging protocol, for checks of web pages."""
 from __future__ import annotations
 
 import base64
@@ -17,19 +17,19 @@ from typing import Any, Optional
 
 from harness import Wrong, must
 
-# The timeout (s) for an answer, long enough for a busy machine.
+# The timeout (s) for an answer. It is long enough for a busy machine.
 SECONDS = 120
 NAMES = ("chromium", "chromium-browser", "google-chrome")
 
 
 def browser_path() -> Optional[str]:
-    """Returns the path of the browser, or None if none is installed."""
+    """Returns the path of the browser, or None if no browser is installed."""
     return next(filter(None, (shutil.which(name) for name in NAMES)), None)
 
 
 class Socket:
-    """A WebSocket client (RFC 6455). It masks the texts that it sends; the browser doesn't mask its
-    texts.
+    """A WebSocket client (RFC 6455). It masks the messages that it sends, and expects unmasked
+    messages from the browser.
     """
 
     def __init__(self, port: int, path: str) -> None:
@@ -59,7 +59,7 @@ class Socket:
         )
 
     def receive(self) -> str:
-        """Returns the next text, which may come in several frames."""
+        """Returns the next message, which may consist of several frames."""
         whole = b""
         while True:
             first, second = self.file.read(2)
@@ -78,7 +78,7 @@ class Socket:
 
 
 class Page:
-    """An open page. `faults` has the messages on its console and its uncaught exceptions."""
+    """An open page. `faults` contains the messages on its console and its uncaught exceptions."""
 
     def __init__(self, stream: Socket) -> None:
         self.stream, self.number = stream, 0
@@ -95,16 +95,16 @@ class Page:
         self.number += 1
         self.stream.send(json.dumps({"id": self.number, "method": method, "params": params}))
         while True:
-            told = json.loads(self.stream.receive())
-            if told.get("id") == self.number:
-                if "error" in told:
-                    raise Wrong(f"{method}: {told['error']}")
-                answer: dict[str, Any] = told["result"]
+            message = json.loads(self.stream.receive())
+            if message.get("id") == self.number:
+                if "error" in message:
+                    raise Wrong(f"{method}: {message['error']}")
+                answer: dict[str, Any] = message["result"]
                 return answer
-            self.take(told)
+            self.take(message)
 
-    def take(self, told: dict[str, Any]) -> None:
-        method, params = told.get("method"), told.get("params", {})
+    def take(self, message: dict[str, Any]) -> None:
+        method, params = message.get("method"), message.get("params", {})
         if method == "Runtime.exceptionThrown":
             self.faults.append(json.dumps(params["exceptionDetails"]))
         elif method == "Runtime.consoleAPICalled" and params["type"] in ("error", "warning"):
@@ -123,7 +123,7 @@ class Page:
         self.wait_for_load(before)
 
     def wait_for_load(self, before: int) -> None:
-        """Waits until more than `before` pages have loaded."""
+        """Waits until more than `before` pages have been loaded."""
         end = time.monotonic() + SECONDS
         while self.loads == before:
             must(time.monotonic() < end, "the page is loaded")
@@ -137,7 +137,9 @@ class Page:
         return found["result"].get("value")
 
     def look(self, width: int, height: int = 900, scheme: str = "light", media: str = "") -> None:
-        """Sets the size (pixels), the reader's colour scheme (light or dark) and the medium."""
+        """Sets the window's size (pixels), the preferred colour scheme (light or dark) and the
+        medium.
+        """
         self.ask("Emulation.setDeviceMetricsOverride", width=width, height=height,
                  deviceScaleFactor=1, mobile=False)
         self.ask("Emulation.setEmulatedMedia", media=media,
@@ -157,8 +159,8 @@ class Page:
         self.drag(x, x, y)
 
     def drag(self, left: float, right: float, y: float) -> None:
-        """Presses the mouse button at x = `left`, moves to x = `right` at height `y`, and releases
-        it (pixels).
+        """Presses the mouse button at x = `left`, moves the pointer to x = `right`, and releases
+        the button. All positions are in pixels, at height `y`.
         """
         self.mouse("mousePressed", left, y, button="left", clickCount=1)
         self.mouse("mouseMoved", (left + right) / 2, y, button="left", buttons=1)
@@ -166,7 +168,7 @@ class Page:
         self.mouse("mouseReleased", right, y, button="left", clickCount=1)
 
     def key(self, name: str, code: int, text: str = "", modifiers: int = 0) -> None:
-        """Presses and releases a key, given by its name and its key code."""
+        """Presses and releases the key with this name and key code."""
         for kind in ("keyDown", "keyUp"):
             more = {"text": text} if text and kind == "keyDown" else {}
             self.ask("Input.dispatchKeyEvent", type=kind, key=name, windowsVirtualKeyCode=code,
@@ -174,8 +176,8 @@ class Page:
 
 
 def flags(folder: str) -> list[str]:
-    """Returns the browser's arguments: no requests to the network, and no sandbox for root, since
-    Chromium refuses a sandbox as root.
+    """Returns the browser's arguments: without network requests, and for root without a sandbox,
+    which Chromium refuses to root.
     """
     found = [
         "--headless", "--disable-gpu", "--hide-scrollbars", "--no-first-run",
@@ -189,7 +191,8 @@ def flags(folder: str) -> list[str]:
 
 
 def port_of(folder: str, process: subprocess.Popen[bytes]) -> int:
-    """Returns the port of the debugging protocol, as soon as the browser has written it."""
+    """Waits until the browser has written the port of its debugging protocol, and returns the port.
+    """
     path = os.path.join(folder, "DevToolsActivePort")
     end = time.monotonic() + SECONDS
     while time.monotonic() < end and process.poll() is None:
@@ -203,7 +206,7 @@ def port_of(folder: str, process: subprocess.Popen[bytes]) -> int:
 
 @contextlib.contextmanager
 def opened_browser(path: str) -> Iterator[Page]:
-    """Yields an empty page in a new browser."""
+    """Starts a new browser, and yields an empty page in it."""
     with tempfile.TemporaryDirectory(ignore_cleanup_errors=True) as folder:
         words = [path, *flags(folder), "--remote-debugging-port=0", "about:blank"]
         process = subprocess.Popen(words, stdout=subprocess.DEVNULL, stderr=subprocess.DEVNULL)

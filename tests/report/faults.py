@@ -1,5 +1,5 @@
-"""Checks that each usage error and each fault has a status and a one-line message that says what to
-do.
+"""Checks that each usage error and each fault causes the right exit status and a one-line message
+that says what to do.
 """
 from __future__ import annotations
 
@@ -49,7 +49,7 @@ def check_faults(program: str) -> None:
 
 
 def check_a_write_that_fails(program: str) -> None:
-    """If the page can't be written completely, no page remains."""
+    """If the page can't be written completely, the incomplete file is removed."""
     with tempfile.TemporaryDirectory() as folder:
         name = os.path.join(folder, "none", "page.html")
         must_be("what is said", fault(program, 2, TRACE, "-o", name),
@@ -62,7 +62,8 @@ def check_a_write_that_fails(program: str) -> None:
 
 
 def check_tools_that_stand_alone(program: str) -> None:
-    """Without a launcher above the tools, the page is made by the program that the variable names.
+    """If there is no launcher above the tools, the page is made with the program that PSI_OOMD
+    names.
     """
     with tempfile.TemporaryDirectory() as folder:
         shutil.copytree(os.path.join(TOP, "tools"), os.path.join(folder, "tools"))
@@ -83,8 +84,9 @@ def check_a_trace_without_ticks(program: str) -> None:
 
 
 def check_a_recording(program: str) -> None:
-    """The page contains the messages of compare and psitrace about a recording, and says so if the
-    trace differs from the recording's. A trace that can't belong to the recording is rejected.
+    """The page contains the messages of compare and psitrace about a recording, and says whether
+    the trace differs from that of the recording. A trace that can't belong to the recording is
+    rejected.
     """
     with recording("exec-2") as folder, tempfile.TemporaryDirectory() as room:
         name = os.path.join(room, "exec-2.trace")

@@ -1,4 +1,4 @@
-"""Makes and parses pages for the checks of tools/report."""
+"""Makes pages with tools/report, and parses them for checks."""
 from __future__ import annotations
 
 import functools
@@ -15,21 +15,22 @@ from harness import must, must_be
 from shared.program import TOP
 
 REPORT = "tools/report"
-# Elements that differ between runs or builds: the time, the commit and the program's checksum.
+# The elements of a page that differ between runs or builds: the time, the commit and the program's
+# checksum.
 CHANGING = re.compile(r'(<(?:time|code) class="(?:made|commit|program)">)[^<]*')
 VOID = {"meta", "input", "br"}
 
 
 class Node:
-    """An element of a page, with its texts and elements in order."""
+    """An element of a page. Its children are texts and elements, in order."""
 
     def __init__(self, tag: str, attributes: dict[str, str]) -> None:
         self.tag, self.attributes = tag, attributes
         self.children: list[Node | str] = []
 
     def find(self, tag: str, **wanted: str) -> list[Node]:
-        """Returns all descendants with this tag and these attributes. For `class`, one of the
-        element's classes suffices.
+        """Returns all descendants with this tag and these attributes. If `class` is given, it must
+        be one of the element's classes.
         """
         found = []
         for it in self.children:
@@ -47,7 +48,7 @@ class Node:
 
 
 class Reader(html.parser.HTMLParser):
-    """Parses a page, and raises unless its elements are closed in order."""
+    """Parses a page. Raises unless its elements are properly nested and closed."""
 
     def __init__(self) -> None:
         super().__init__()
@@ -80,7 +81,7 @@ def run(program: str, *words: str, folder: str = TOP) -> subprocess.CompletedPro
 
 
 def page_of(program: str, *words: str, folder: str = TOP) -> bytes:
-    """Returns the page for these arguments, and raises unless the run succeeds."""
+    """Runs report with these arguments, which must succeed, and returns the page."""
     done = run(program, *words, folder=folder)
     must_be(f"the status of report {words}, which said {done.stderr!r}", done.returncode, 0)
     return done.stdout
@@ -88,7 +89,7 @@ def page_of(program: str, *words: str, folder: str = TOP) -> bytes:
 
 @functools.lru_cache(maxsize=None)
 def story(program: str) -> bytes:
-    """Returns the page of the example `runaway`, made by the command in README."""
+    """Returns the page of the example `runaway`, made with the command in README."""
     with tempfile.TemporaryDirectory() as folder:
         os.symlink(os.path.join(TOP, "examples"), os.path.join(folder, "examples"))
         page_of(program, "examples/runaway.trace", "--rules", "examples/runaway.json", "-o",
@@ -98,11 +99,11 @@ def story(program: str) -> bytes:
 
 
 def data_of(page: Node) -> dict[str, Any]:
-    """Returns the data that the page contains for its script."""
+    """Returns the data in the page that its script reads."""
     (found,) = page.find("script", id="data")
-    told: dict[str, Any] = json.loads(found.text())
-    must(told["panels"], "there are panels")
-    return told
+    data: dict[str, Any] = json.loads(found.text())
+    must(data["panels"], "there are panels")
+    return data
 
 
 def same(page: bytes) -> str:

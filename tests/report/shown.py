@@ -1,5 +1,5 @@
-"""Checks in a browser what a reader sees: with a pointer, by keyboard, without scripts, in dark
-mode and on paper.
+"""Checks in a browser what a reader sees: with the mouse, with the keyboard, without scripts, in
+dark mode and on paper.
 """
 from __future__ import annotations
 
@@ -29,7 +29,7 @@ BOX = f"""(() => {{ {PICTURE}.scrollIntoView({{block: "center"}});
   const box = {PICTURE}.getBoundingClientRect();
   return [box.x, box.y, box.width, box.height]; }})()"""
 REACHED = "input, button, summary, a[href], figure:not([hidden]) > .scroll > svg[tabindex], .wide"
-# Elements that the keyboard can't reach: they are inside closed or hidden elements.
+# Selects elements that the keyboard can't reach because they are inside closed or hidden elements.
 CLOSED = "details .wide, figure[hidden] summary"
 VALUES = 'document.querySelector("figure[data-panel]:not([hidden]) .values").textContent'
 SHOWN = (
@@ -41,8 +41,8 @@ TIME = 'document.getElementById("time").textContent'
 
 @contextmanager
 def shown(program: str) -> Iterator[Page]:
-    """Yields the example's page in a browser, if a browser is installed. Raises unless the console
-    stays empty and nothing else is fetched.
+    """Opens the example's page in a browser, if one is installed, and yields it. Raises if the
+    console contains a message, or if another file was fetched.
     """
     path = browser_path()
     assert path
@@ -66,16 +66,16 @@ def is_skipped() -> bool:
 
 
 def place_of(page: Page, seconds: float) -> tuple[float, float]:
-    """Returns the position (pixels) in the window of a time (s) in the first picture, which must
-    show all 300 s.
+    """Returns the position in the window (pixels) at which the first picture shows the time
+    `seconds`. The picture must show all 300 s.
     """
     x, y, width, height = page.value(BOX)
     return x + (112 + seconds / 300 * (936 - 112)) * width / 960, y + height * 0.6
 
 
 def values_of(program: str, seconds: int) -> str:
-    """Returns the values that the page should show below the first picture at a time (s), from
-    psi_oomd's output.
+    """Returns the values that the page should show below the first picture at the time `seconds`.
+    They are computed from psi_oomd's output.
     """
     printed = Printed(run([program, "replay", "examples/runaway.trace", "--report-s", "2"]))
     looks = [
@@ -90,8 +90,8 @@ def values_of(program: str, seconds: int) -> str:
 
 
 def check_pointer_and_zoom(program: str) -> None:
-    """The pointer shows the values of the latest report. A drag zooms into an interval, and Escape
-    shows the whole time again.
+    """The pointer selects a time, and the page shows the values of the latest report before it.
+    Dragging zooms into an interval, and Escape shows the whole time again.
     """
     if is_skipped():
         return
@@ -123,7 +123,9 @@ def check_pointer_and_zoom(program: str) -> None:
 
 
 def check_pictures_are_redrawn_alike(program: str) -> None:
-    """For the whole time, the script draws the same lines as the modules that made the charts."""
+    """For the whole time, the page's script draws the same lines as the Python modules that drew
+    the charts.
+    """
     if is_skipped():
         return
     still = [
@@ -181,8 +183,8 @@ def check_groups_and_resources(program: str) -> None:
 
 
 def check_keys_alone(program: str) -> None:
-    """The Tab key reaches each checkbox, picture, link and table. A picture has keys for moving in
-    time and for zooming.
+    """The Tab key reaches each checkbox, picture, link and table. With the focus on a picture, keys
+    move in time and zoom.
     """
     if is_skipped():
         return
@@ -213,7 +215,8 @@ def check_keys_alone(program: str) -> None:
 
 
 def check_without_a_script(program: str) -> None:
-    """Without a script all pictures are static, and no control without effect is shown."""
+    """Without scripts all pictures are static, and controls that would have no effect are hidden.
+    """
     if is_skipped():
         return
     count = len(data_of(read(story(program)))["panels"])
@@ -227,8 +230,8 @@ def check_without_a_script(program: str) -> None:
 
 
 def check_looks(program: str) -> None:
-    """The page follows the reader's light or dark setting, fits a narrow screen, and takes two
-    pages on paper.
+    """The page uses the reader's light or dark setting, fits a narrow screen, and needs two pages
+    on paper.
     """
     if is_skipped():
         return
@@ -254,7 +257,9 @@ def check_looks(program: str) -> None:
 
 
 def check_breaks_on_paper(program: str) -> None:
-    """On paper no heading is separated from its table, and no table that fits on a page is cut."""
+    """On paper, a heading is on the same page as its table, and a table that fits on a page isn't
+    split.
+    """
     if is_skipped():
         return
     with shown(program) as page:
@@ -270,8 +275,8 @@ def check_breaks_on_paper(program: str) -> None:
 
 
 def check_texts_of_pictures_fit(program: str) -> None:
-    """No text of a picture lies outside of it or covers another text, on a large screen, on paper
-    and on a phone, even with long names.
+    """No text of a picture lies outside of the picture or covers another text, even with long
+    names. That holds on a large screen, on paper and on a phone.
     """
     with tempfile.TemporaryDirectory() as folder:
         with open(os.path.join(folder, "long.trace"), "w", encoding="ascii") as file:
@@ -291,8 +296,8 @@ def check_texts_of_pictures_fit(program: str) -> None:
 
 
 def check_scales_that_differ(program: str) -> None:
-    """A picture says if its scale ends below 100 percent; the picture beside it may end at another
-    value.
+    """If the scale of a picture ends below 100 percent, the picture says so. The scale of the
+    picture beside it may be different.
     """
     page = read(story(program))
     figures = [it for it in page.find("figure") if "data-panel" in it.attributes]
@@ -311,7 +316,7 @@ def check_scales_that_differ(program: str) -> None:
 
 
 def check_a_phone(program: str) -> None:
-    """On a phone each picture is as wide as the screen. It has no labels, so no label is cut."""
+    """On a phone each picture is as wide as the screen, and has no labels that could be cut."""
     if is_skipped():
         return
     with shown(program) as page:
@@ -335,8 +340,8 @@ def check_a_phone(program: str) -> None:
 
 
 def check_one_label_for_each_kill(program: str) -> None:
-    """Only the first picture has a label for each kill; a vertical line marks each kill in all
-    pictures.
+    """A vertical line marks each kill in all pictures, but only the first picture has labels for
+    them.
     """
     figures = [it for it in read(story(program)).find("figure") if "data-panel" in it.attributes]
     labels = [
@@ -352,8 +357,8 @@ def check_one_label_for_each_kill(program: str) -> None:
 
 
 def check_by_the_browsers_own_words(program: str) -> None:
-    """Chromium's `--dump-dom` prints the page after its script ran, and its `--screenshot` makes an
-    image.
+    """Chromium's `--dump-dom` prints the page after its script has run, and `--screenshot` makes an
+    image of it.
     """
     path = browser_path()
     if is_skipped():
@@ -364,17 +369,17 @@ def check_by_the_browsers_own_words(program: str) -> None:
         with open(name, "wb") as file:
             file.write(story(program))
         words = [path, *flags(os.path.join(folder, "profile"))]
-        told = subprocess.run([*words, "--dump-dom", f"file://{name}"], capture_output=True,
+        done = subprocess.run([*words, "--dump-dom", f"file://{name}"], capture_output=True,
                               text=True, timeout=300)
-        must('<html lang="en" class="live">' in told.stdout and "0 s to 300 s" in told.stdout,
-             f"the script ran: {told.stderr[:500]}")
+        must('<html lang="en" class="live">' in done.stdout and "0 s to 300 s" in done.stdout,
+             f"the script ran: {done.stderr[:500]}")
         subprocess.run([*words, f"--screenshot={picture}", f"file://{name}"], capture_output=True,
                        timeout=300)
         must(os.path.getsize(picture) > 20_000, "there is a picture")
 
 
 def check_by_tidy(program: str) -> None:
-    """The program tidy reports no fault in the page."""
+    """The program `tidy` reports no fault in the page."""
     if not shutil.which("tidy"):
         print("tidy isn't installed: its view of the page is skipped")
         return

@@ -1,4 +1,4 @@
-"""Checks a page's style sheet without a browser."""
+"""Checks the style sheet of a page without a browser."""
 from __future__ import annotations
 
 import re
@@ -8,7 +8,7 @@ from .pages import read, story
 
 
 def rules_of_style(page: bytes, medium: str) -> dict[str, str]:
-    """Returns the page's CSS declarations for a medium, by selector."""
+    """Returns the CSS declarations of the page for a medium, by selector."""
     (style,) = re.findall(r"(?s)<style>(.*?)</style>", page.decode())[:1]
     found: dict[str, str] = {}
     start = style.index(f"@media {medium} {{") + len(f"@media {medium} {{")
@@ -24,7 +24,7 @@ def rules_of_style(page: bytes, medium: str) -> dict[str, str]:
 
 
 def check_breaks_without_a_browser(program: str) -> None:
-    """The style for paper forbids page breaks within tables and after headings, and each heading
+    """The style for paper forbids page breaks inside tables and after headings. Each heading
     precedes its table or text.
     """
     style = rules_of_style(story(program), "print")

@@ -1,4 +1,4 @@
-"""Checks that the numbers on a page are those of psi_oomd and of the tools."""
+"""Checks that the numbers on a page are those that psi_oomd and the tools print."""
 from __future__ import annotations
 
 import json
@@ -35,7 +35,7 @@ def rows_of(section: Node) -> list[list[str]]:
 
 
 def check_the_first_sentence(program: str) -> None:
-    """The numbers in the page's first sentence are those that the commands print."""
+    """The numbers in the first sentence of the page are those that the commands print."""
     page = read(story(program))
     was = Printed(
         run(
@@ -55,10 +55,10 @@ def check_the_first_sentence(program: str) -> None:
     )
     key = "/batch", "memory", "some", "avg10"
     highest = max(share for _, share in was.shares[key])
-    at = next(moment for moment, share in was.shares[key] if share == highest)
-    above = [moment for moment, share in was.shares[key] if 2 * share >= highest]
+    at = next(time_ns for time_ns, share in was.shares[key] if share == highest)
+    above = [time_ns for time_ns, share in was.shares[key] if 2 * share >= highest]
     (kill,) = was.kills
-    later = next(moment for moment, _ in was.shares[key] if moment >= kill[0] + 30 * SECOND)
+    later = next(time_ns for time_ns, _ in was.shares[key] if time_ns >= kill[0] + 30 * SECOND)
     cut = [int(dict(it.shares[key])[later] * 10 + 1e-9) / 10 for it in (other, was)]
     must_be("the sentence", lead_of(page), (
         f"/batch stalled for memory, at its worst from {above[0] // SECOND} s to "
@@ -71,36 +71,36 @@ def check_the_first_sentence(program: str) -> None:
 
 
 def check_the_commands(program: str) -> None:
-    """Each number that refers to a command has that command in the page's list, and the command
-    prints that number.
+    """If a number on the page links to a command, the command is in the page's list, and it prints
+    the number.
     """
     page = read(story(program))
-    (made,) = page.find("section", id="made")
-    commands = {it.attributes["id"]: it.find("code")[0].text() for it in made.find("li")}
+    (section,) = page.find("section", id="made")
+    commands = {it.attributes["id"]: it.find("code")[0].text() for it in section.find("li")}
     for link in page.find("a", class_="from"):
         must(link.attributes["href"][1:] in commands, f"{link.text()} is a command of the page")
     words = [it.split() for it in commands.values()]
     must(all(it[0] == "psi_oomd" or os.path.exists(os.path.join(TOP, it[0])) for it in words),
          f"these are commands: {words}")
     (blame,) = [it for it in words if it[0] == "tools/blame" and "--group=/batch" in it]
-    told = json.loads(run([os.path.join(TOP, blame[0]), *blame[1:]]))["groups"][0]
+    group = json.loads(run([os.path.join(TOP, blame[0]), *blame[1:]]))["groups"][0]
     cells = rows_of(page.find("section", id="blame")[0])
-    for part in told["while_ran"]:
+    for part in group["while_ran"]:
         row = [
             part["group"], f"{part['ns'] / SECOND:.3f}",
-            f"{100 * part['ns'] / told['waited_ns']:.1f} %",
+            f"{100 * part['ns'] / group['waited_ns']:.1f} %",
         ]
         must(row in cells, f"{row} is in a table")
     for name in ("runaway.trace", "runaway.json"):
         said = subprocess.run(
             ["sha256sum", f"examples/{name}"], cwd=TOP, capture_output=True, text=True, check=True
         ).stdout.split()[0]
-        must([f"examples/{name}", said] in rows_of(made), f"the sum of {name}")
+        must([f"examples/{name}", said] in rows_of(section), f"the sum of {name}")
 
 
 def check_values_for_the_script(program: str) -> None:
-    """The pointer shows the values that the replay printed, and events and kills are at their
-    times.
+    """The page shows the values that the replay printed for the time under the pointer. Events and
+    kills are at their times.
     """
     page = read(story(program))
     printed = Printed(
@@ -121,38 +121,41 @@ def check_values_for_the_script(program: str) -> None:
         for look, values in panel["s"].items():
             level, average = look.split(" ")
             shares = printed.shares[path, resource, level, average]
-            wanted = {moment // 10**6: round(100 * share) for moment, share in shares}
+            wanted = {time_ns // 10**6: round(100 * share) for time_ns, share in shares}
             rows = {at: value for at, value in zip(panel["t"], values) if at is not None}
             must(rows and rows.items() <= wanted.items(),
                  f"{path} {resource} {look}: {rows} are of {wanted}")
             must_be(f"{path} {resource} {look}: the highest", max(rows.values()),
                     max(wanted.values()))
-        for level, moments in panel["e"].items():
-            must_be("events", moments,
-                    [moment // 10**6 for moment in printed.events[path, resource, level]])
+        for level, times in panel["e"].items():
+            must_be("events", times,
+                    [time_ns // 10**6 for time_ns in printed.events[path, resource, level]])
         must(printed.kills[0][0] // 10**6 in panel["marks"], "the kill stands there")
         found += 1
     must(found >= 6, f"there are {found} pictures")
 
 
 def some_pressure(draw: random.Random, total: int) -> Pressure:
-    """Returns random averages, most of them 7, with this total (us)."""
+    """Returns a pressure with random averages, which are mostly 7, and with this total (us)."""
     averages = [draw.randrange(10**4) if draw.random() < 0.01 else 7 for _ in range(3)]
     return Pressure(averages[0], averages[1], averages[2], total)
 
 
-def highest_of(moments: Sequence[int], values: Sequence[int], end: int) -> dict[int, int]:
-    """Returns the highest value in each of STRETCHES equal intervals up to `end` (ns), by interval.
+def highest_of(times_ns: Sequence[int], values: Sequence[int], end: int) -> dict[int, int]:
+    """Divides the time until `end` (ns) into STRETCHES equal intervals. Returns the highest value
+    in each interval, by the interval's number.
     """
     highest: dict[int, int] = {}
-    for moment, value in zip(moments, values):
-        stretch = moment * STRETCHES // end
+    for time_ns, value in zip(times_ns, values):
+        stretch = time_ns * STRETCHES // end
         highest[stretch] = max(highest.get(stretch, 0), value)
     return highest
 
 
 def check_thinned_values(program: str) -> None:
-    """A long series is thinned: each interval keeps its highest value, and gaps remain gaps."""
+    """If a series is so long that values are left out, the highest value of each interval is kept,
+    and gaps remain gaps.
+    """
     del program
     draw, series, number = random.Random(3), Series(), 0
     for tick in range(1, 40_001):
@@ -183,7 +186,7 @@ def check_thinned_values(program: str) -> None:
 
 
 def check_detectors(program: str) -> None:
-    """The times at which detectors were true agree with docs/RULES.md for the plugins' examples,
+    """The times at which detectors are true agree with docs/RULES.md for the examples of plugins,
     and with psi_oomd's output for the example `runaway`.
     """
     before, os.environ["PSI_OOMD"] = os.environ.get("PSI_OOMD", ""), program
@@ -203,22 +206,22 @@ def check_detectors(program: str) -> None:
         os.environ["PSI_OOMD"] = before
     printed = Printed(run([program, "replay", "examples/runaway.trace", "--report-s", "1"]))
     full = dict(printed.shares["/batch", "memory", "full", "avg10"])
-    held = [at for at in found[ALWAYS] if full[at] > 40]
-    must_be("when the condition held", found[Place(0, 0, 0, True)], held)
+    times = [at for at in found[ALWAYS] if full[at] > 40]
+    must_be("when the condition held", found[Place(0, 0, 0, True)], times)
     must_be("when it was true", found[Place(0, 0, 0)],
-            [at for at in held if at - held[0] >= 20 * SECOND])
-    first = found[ALWAYS].index(held[0])
-    must_be("that it held at a stretch", held, found[ALWAYS][first : first + len(held)])
+            [at for at in times if at - times[0] >= 20 * SECOND])
+    first = found[ALWAYS].index(times[0])
+    must_be("that it held at a stretch", times, found[ALWAYS][first : first + len(times)])
 
 
 def check_how_near(program: str) -> None:
-    """The page states the highest value that a detector evaluated, and how long the condition held,
-    also for a ruleset that never fires.
+    """For each detector, the page states the highest value and the longest time for which the
+    condition held, even if the ruleset never fires.
     """
     printed = Printed(run([program, "replay", "examples/runaway.trace", "--report-s", "1"]))
     shares = printed.shares["/batch", "memory", "full", "avg10"]
     evaluated = [
-        (share, moment // SECOND) for moment, share in shares if moment // SECOND % 10 in (0, 6)
+        (share, time_ns // SECOND) for time_ns, share in shares if time_ns // SECOND % 10 in (0, 6)
     ]
     share, at = max(evaluated, key=lambda it: (it[0], -it[1]))
     (rules,) = read(story(program)).find("section", id="rules")
@@ -243,7 +246,7 @@ def check_how_near(program: str) -> None:
 
 
 def check_names_are_shown(program: str) -> None:
-    """A group's or file's name that looks like an HTML element is shown as text."""
+    """If the name of a group or a file looks like an HTML element, the page shows it as text."""
     with tempfile.TemporaryDirectory() as folder:
         with open(os.path.join(TOP, "examples", "runaway.json"), encoding="utf-8") as file:
             text = file.read().replace(
@@ -252,9 +255,9 @@ def check_names_are_shown(program: str) -> None:
         name = "a <img src=x> b.json"
         with open(os.path.join(folder, name), "w", encoding="utf-8") as file:
             file.write(text)
-        given = page_of(program, os.path.join(TOP, "examples", "runaway.trace"), "--rules", name,
-                        folder=folder)
-    page = read(given)
+        html = page_of(program, os.path.join(TOP, "examples", "runaway.trace"), "--rules", name,
+                       folder=folder)
+    page = read(html)
     must_be("scripts", len(page.find("script")), 2)
     must_be("images", len(page.find("img")) + len(page.find("b")), 0)
     must("Ruleset 0 ‘<script>alert(1)</script>’ would have killed" in lead_of(page), lead_of(page))
@@ -262,7 +265,7 @@ def check_names_are_shown(program: str) -> None:
 
 
 def check_an_hour(program: str) -> None:
-    """The page of a trace of an hour with many groups is smaller than 2 MB."""
+    """The page for an hour-long trace with many groups is smaller than 2 MB."""
     draw = random.Random(1)
     groups = [f"/g{number}" for number in range(12)]
     lines = ["psitrace 1 cpus=4", *(f"0 group {path}" for path in groups)]
@@ -287,7 +290,7 @@ def check_an_hour(program: str) -> None:
 
 
 def check_stored_pages(program: str) -> None:
-    """The stored pages of the examples equal the pages that the command makes now."""
+    """The stored pages of the examples equal the pages that the command makes."""
     with open(os.path.join(TOP, "examples", "runaway.html"), "rb") as file:
         must(same(file.read()) == same(story(program)),
              "examples/runaway.html is what its command makes: make it anew")
@@ -296,13 +299,13 @@ def check_stored_pages(program: str) -> None:
         page_of(program, "examples/real/debian-2cpu.trace", "-o", "debian-2cpu.html", folder=folder)
         example = os.path.join(TOP, "examples", "real", "debian-2cpu.html")
         made_here = os.path.join(folder, "debian-2cpu.html")
-        with open(made_here, "rb") as made, open(example, "rb") as stored:
-            must(same(stored.read()) == same(made.read()),
+        with open(made_here, "rb") as output, open(example, "rb") as stored:
+            must(same(stored.read()) == same(output.read()),
                  "examples/real/debian-2cpu.html is what its command makes: make it anew")
 
 
 def check_nothing_from_elsewhere(program: str) -> None:
-    """The page refers to nothing that a browser would fetch, and its script is short."""
+    """The page contains no reference that a browser would fetch, and its script is short."""
     page = read(story(program))
     for node in [
         it for tag in ("script", "img", "link", "iframe", "image", "use") for it in page.find(tag)

@@ -1,5 +1,5 @@
-"""Checks the page's summary: what stalled most, which ruleset came nearest to firing, what a kill
-would have changed, and the caveats.
+"""Checks of the summary on a page: what stalled most, which ruleset came nearest to firing, what a
+kill would have changed, and how reliable the page is.
 """
 from __future__ import annotations
 
@@ -24,20 +24,20 @@ from .told import lead_of
 SECOND = 10**9
 RUNAWAY = os.path.join(TOP, "examples", "runaway.trace")
 
-# A trace in which a task of the root always waits for IO, and the only group is empty.
+# A trace with an empty group, in which a task of the root always waits for IO.
 ROOT = (
     "psitrace 1 cpus=1\n0 group /idle\n0 fork 1 / 0\n0 switch 0 1 idle\n0 switch 0 0 iowait\n"
     "60000000000 end\n"
 )
-# A trace in which interrupts take half of the time, and nothing else happens.
+# A trace in which interrupts take half of the time, and which has no other event.
 INTERRUPTS = "psitrace 2 cpus=1\n0 group /a\n0 fork 1 /a 0\n0 switch 0 1 idle\n" + "".join(
     f"{second}000000000 irq 0 500000000\n" for second in range(1, 41)
 ) + "40000000000 end\n"  # fmt: skip
 
 
 def stalled(task: int, start: int, end: int) -> list[tuple[int, str]]:
-    """Returns the trace lines of a task that stalls for memory on processor `task` - 1 from `start`
-    to `end` (s), and sleeps otherwise.
+    """Returns the trace lines of a task on processor `task` - 1. The task stalls for memory from
+    `start` to `end` (s), and sleeps at all other times.
     """
     cpu = task - 1
     begin = [
@@ -53,14 +53,14 @@ def stalled(task: int, start: int, end: int) -> list[tuple[int, str]]:
 
 def two_stalls(end: int, other: int = 14, first: int = 10, host: str = "host 1000000 0 0") -> str:
     """Returns a trace in which /a/b stalls from 2 s to `first` s, and /x from 2 s to `other` s."""
-    made = [(0, host)] if host else []
-    made += [
+    start_lines = [(0, host)] if host else []
+    start_lines += [
         (0, it) for it in ("group /a", "group /a/b", "group /x", "fork 1 /a/b 0", "fork 2 /x 1")
     ]
     events = sorted([*stalled(1, 2, first), *stalled(2, 2, other)], key=lambda it: it[0])
     lines = [
         f"{second * SECOND} {text}" for second, text in [
-            *made, *events, (end, "end")
+            *start_lines, *events, (end, "end")
         ] if second <= end
     ]
     return "\n".join(["psitrace 1 cpus=2", *lines, ""])
@@ -88,7 +88,7 @@ def ruleset(name: str, cgroup: str, *detectors: dict[str, Any]) -> dict[str, Any
 def page(
     program: str, trace: str, rulesets: Optional[list[dict[str, Any]]] = None, *words: str
 ) -> Node:
-    """Returns the parsed page of a trace, given as text or as a path, with these rules."""
+    """Returns the parsed page for a trace with these rules. The trace is a text or a path."""
     with tempfile.TemporaryDirectory() as folder:
         if trace.startswith("psitrace"):
             with open(os.path.join(folder, "a.trace"), "w", encoding="ascii") as file:
@@ -130,7 +130,7 @@ def check_the_root_alone(program: str) -> None:
 
 
 def check_interrupts_alone(program: str) -> None:
-    """Interrupts count as a stall if nothing else stalled."""
+    """If no group stalled, time in interrupts counts as a stall."""
     found = page(program, INTERRUPTS)
     must(lead_of(found).startswith("The machine was held up by interrupts, at its worst from "),
          lead_of(found))
@@ -138,13 +138,14 @@ def check_interrupts_alone(program: str) -> None:
 
 
 def check_the_nearest_ruleset(program: str) -> None:
-    """The nearest ruleset is the one whose value came closest to a threshold. A detector that only
-    checks that a group exists doesn't count.
+    """The nearest ruleset is the one with the value that came closest to a threshold. Detectors
+    that only check whether a group exists don't count.
     """
     full = Printed(
         run([program, "replay", "examples/runaway.trace", "--report-s", "1"])
     ).shares["/batch", "memory", "full", "avg10"]
-    share, at = max(((share, moment) for moment, share in full if moment // SECOND % 10 in (0, 6)),
+    share, at = max(((share, time_ns) for time_ns,
+                     share in full if time_ns // SECOND % 10 in (0, 6)),
                     key=lambda it: (it[0], -it[1]))
     far = ruleset("far", "web", detector("exists", cgroup="web"), pressure("web", "10"))
     high, low = (ruleset(f"above {it}", "batch/*", pressure("batch", it)) for it in ("99", "90"))
@@ -178,7 +179,7 @@ def check_the_nearest_ruleset(program: str) -> None:
 
 
 def check_a_kill_after_the_stall(program: str) -> None:
-    """If a kill would have changed nothing, the page says that instead of printing the same number
+    """If a kill would have changed nothing, the page says so instead of printing the same number
     twice.
     """
     found = page(program, OVER, [ruleset("late", "a/*", pressure("a", "5", "10"))])
@@ -194,8 +195,8 @@ def check_a_kill_after_the_stall(program: str) -> None:
 
 
 def check_the_worst_group(program: str) -> None:
-    """The title and the first sentence name the group that stalled most, even if the rules watch
-    another group.
+    """The title and the first sentence name the group that stalled most, even if the rules watch a
+    different group.
     """
     found = page(program, OVER, [ruleset("late", "a/*", pressure("a", "5", "10"))])
     must_be("the title", title_of(found), "Incident: memory pressure of /x and /a")
@@ -219,7 +220,8 @@ def check_the_worst_group(program: str) -> None:
 
 
 def check_short_traces(program: str) -> None:
-    """For a trace shorter than 180 s, the first sentence says which averages mean little."""
+    """If a trace is shorter than 180 s, the first sentence says which averages aren't meaningful.
+    """
     little, less = (
         "averages mean little before 30 s, those over 60 and 300 s before 3 min",
         "averages over 60 and 300 s mean little before 3 min",
@@ -242,7 +244,7 @@ def check_a_machine_without_swap(program: str) -> None:
 
 
 def check_control_characters(program: str) -> None:
-    """No control character in a name reaches the page."""
+    """The page contains no control characters from names."""
     rules = [ruleset("a\0b\x1b[31mred\x7f", "a/*", pressure("a", "5", "10"))]
     rules[0]["detectors"][0][0] = "g\0\x1b[2J"
     text = page(program, OVER, rules).text()
@@ -251,7 +253,7 @@ def check_control_characters(program: str) -> None:
 
 
 def check_rules_on_other_groups(program: str) -> None:
-    """A pattern that matches no group is reported right after the first sentences."""
+    """If a pattern matches no group, the page says so directly after its first sentences."""
     found = page(program, OVER, [ruleset("slip", "a/*", pressure("/aa", "5"))])
     notes = [it.text() for it in found.find("p", class_="note")]
     must_be(
@@ -269,9 +271,7 @@ def check_rules_on_other_groups(program: str) -> None:
 
 
 def check_a_group_by_its_last_component(program: str) -> None:
-    """With --group, the last component of a path selects the group as the whole path does. Only the
-    command shown on the page differs.
-    """
+    """--group accepts a whole path or its last component. Only the command on the page differs."""
     by_name, by_path = (
         same(page_of(program, RUNAWAY, "--group", it)) for it in ("import", "/batch/import")
     )
@@ -280,8 +280,8 @@ def check_a_group_by_its_last_component(program: str) -> None:
 
 
 def check_words_that_name_nothing(program: str) -> None:
-    """A missing group, a folder in place of the page, and each missing file are reported, with the
-    purpose of the file.
+    """A missing group, an output path that is a folder, and each missing file are reported. The
+    message states the purpose of the file.
     """
     every = "/, /batch, /batch/import, /batch/index, /web"
     for word, near in (("bacth", "/batch, .."), ("/bathc", "/batch, .."), ("/nosuch", every)):
@@ -307,8 +307,8 @@ def check_words_that_name_nothing(program: str) -> None:
 
 
 def trust_text(compared: str, said: str) -> str:
-    """Returns the page's section about a recording's reliability, for these messages of compare and
-    psitrace.
+    """Returns the page's section about the reliability of a recording, for these messages of
+    compare and psitrace.
     """
     run_ = SimpleNamespace(number=1, text=lambda: compared, said=said)
     element = ElementTree.Element("body")
@@ -322,8 +322,8 @@ def trust_text(compared: str, said: str) -> str:
 
 
 def check_repairs_and_causes(program: str) -> None:
-    """Harmless repairs of a recording cause no warning. A total beyond its limit has the cause next
-    to it.
+    """Harmless repairs of a recording cause no warning. If a total is beyond its limit, the page
+    states the cause.
     """
     del program
     verdict, cause = (

@@ -1,5 +1,5 @@
-"""Checks how tools/rules expect prints results: for several traces, for two rules files, as JSON,
-and as TAP.
+"""Checks how tools/rules expect prints its results: for several traces, for two rules files, as
+JSON, and as TAP.
 """
 from __future__ import annotations
 
@@ -31,13 +31,13 @@ def check_several_traces(room: Room) -> None:
         story = file.read()
     room.file("want.txt", "at most 0 kills\n")
     piped = room.run(RULES, "expect", "want.txt", "-", NO_EVENT, "--rules", "rules.json",
-                     given=story)
+                     stdin=story)
     must_be("standard input", piped, Done(1, wanted.replace("a b.trace", "-"), ""))
 
 
 def check_side_by_side(room: Room) -> None:
-    """expect runs one replay per processor at a time. A stub of psi_oomd waits until that number of
-    its copies run, and fails otherwise.
+    """expect runs as many replays in parallel as there are processors. A stub of psi_oomd waits
+    until this number of its copies run, and fails after a timeout.
     """
     count = len(os.sched_getaffinity(0))
     room.file("rules.json", rules_text())
@@ -57,8 +57,8 @@ def check_pace(room: Room) -> None:
     for words in (
         ("--interval-s", "7"), ("--tick-ms", "700"), ("--tick-ms", "5000", "--interval-s", "1")
     ):
-        moment = room.kills(RUNAWAY, "--rules", "rules.json", *words)[0][0]
-        done = expect(room, f"first /batch/import from {moment / 10**9} to {moment / 10**9}\n",
+        time_ns = room.kills(RUNAWAY, "--rules", "rules.json", *words)[0][0]
+        done = expect(room, f"first /batch/import from {time_ns / 10**9} to {time_ns / 10**9}\n",
                       RUNAWAY, *words)
         must_be(f"{words}, which goes to the program", (done.status, done.error), (0, ""))
 

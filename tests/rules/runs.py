@@ -11,7 +11,7 @@ KILLER = "ruleset 0 'memory', action 0 'kill_by_memory_size_or_growth'"
 
 def rules_text(**changes: object) -> str:
     """Returns the rules of the example `runaway`, with the ruleset name `memory`. `changes`
-    replaces arguments of the detector or keys of the ruleset.
+    replaces arguments of the detector and keys of the ruleset.
     """
     with open(RUNAWAY_RULES, encoding="utf-8") as file:
         rules = json.load(file)
@@ -23,8 +23,8 @@ def rules_text(**changes: object) -> str:
 
 
 def memory_rules(name: str, pattern: str, delay: int) -> str:
-    """Returns a ruleset that kills the largest of the groups that match `pattern`, `delay` s after
-    it fires, at every evaluation.
+    """Returns a ruleset that fires at each evaluation and kills the largest group that matches
+    `pattern`. `delay` is the time (s) after a kill until it fires again.
     """
     action = {
         "name": "kill_by_memory_size_or_growth",

@@ -1,4 +1,4 @@
-"""Checks of tools/samples, with helpers for them: samples written by hand, runs of the tool, and
+"""Checks of tools/samples, and helpers for these checks: they make samples, run the tool, and parse
 the totals that psi_oomd prints.
 """
 from __future__ import annotations
@@ -19,7 +19,7 @@ SECOND = 10**9
 REPORT = re.compile(
     r"report (\d+) (\S+) (io|memory|cpu)\nsome [^\n]*total=(\d+)\nfull [^\n]*total=(\d+)\n"
 )
-# The totals (us) of `some` and of `full`, by time (s), group and resource.
+# Pairs of totals (us) of `some` and `full`, keyed by time (s), group and resource.
 Totals = dict[tuple[int, str, str], tuple[int, int]]
 
 
@@ -55,8 +55,8 @@ class Room:
     def run(
         self, *words: str, program: str = "", status: int | None = None, text: str = ""
     ) -> Done:
-        """Runs a tool, or the program if the first word is psi_oomd, with a text as standard input.
-        Raises unless the exit status is `status`, if one is given.
+        """Runs a tool with a text as standard input. If the first word is psi_oomd, runs the
+        program. Raises unless the exit status is `status`, but None accepts all.
         """
         first = self.program if words[0] == "psi_oomd" else os.path.join(TOP, "tools", words[0])
         environment = {
@@ -71,11 +71,11 @@ class Room:
         return found
 
     def make(self, *words: str, status: int = 0) -> Done:
-        """Converts samples to the trace it.trace."""
+        """Runs tools/samples, which converts samples to the trace it.trace."""
         return self.run("samples", *words, "-o", "it.trace", status=status)
 
     def totals(self, trace: str = "it.trace") -> Totals:
-        """Returns the totals that a replay of a trace prints at ticks of 2 s."""
+        """Returns the totals that a replay of a trace prints, with ticks of 2 s."""
         printed = self.run("psi_oomd", "replay", trace, "--report-s=2", status=0).output
         return {
             (int(it[1]) // SECOND, it[2], it[3]): (int(it[4]), int(it[5]))
@@ -90,8 +90,8 @@ def room_of(program: str) -> Iterator[Room]:
 
 
 class Row(NamedTuple):
-    """A sample: the totals (us) of `some` and `full` of a group and a resource, `at` seconds after
-    START.
+    """A sample of a group and a resource: the totals (us) of `some` and `full`, and the time `at`
+    (s after START).
     """
 
     at: float
@@ -102,7 +102,7 @@ class Row(NamedTuple):
 
 
 def csv(rows: Iterable[Row], more: Iterable[str] = ()) -> str:
-    """Returns the rows as CSV, ordered by time, followed by the lines `more`."""
+    """Returns the rows as CSV in order of time, followed by the lines in `more`."""
     lines = [
         f"{START + it.at:.3f},{it.group},{it.resource},{it.some},{it.full}\n"
         for it in sorted(rows, key=lambda it: it.at)
@@ -114,8 +114,8 @@ def steady(
     group: str, resource: str, times: Iterable[float], some: float, full: float, start: float = 0.0,
     base: int = 0,
 ) -> list[Row]:
-    """Returns samples of a total that starts at `base` us and grows, from `start` (s) on, by a
-    share (0 to 1) of the time.
+    """Returns samples of totals that grow by constant shares (0 to 1) of the time. At `start` (s)
+    the totals are `base` us.
     """
     return [
         Row(
@@ -126,34 +126,35 @@ def steady(
 
 
 def exact(_path: str, _resource: str) -> int:
-    """Returns the largest error (us) that rounding may cause in any total."""
+    """Returns the largest error (us) of a total that rounding may cause."""
     return 2
 
 
 def must_match(
     found: Totals, rows: Iterable[Row], near: Callable[[str, str], int] = exact,
-    made: dict[str, float] | None = None
+    creations: dict[str, float] | None = None
 ) -> int:
-    """Raises unless the replay has each sample at an even second, counted from the group's first
-    sample, or from 0 if the group was created later (in `made`). Returns the number of compared
+    """Compares each sample at an even second with `found`, the totals that a replay printed. Raises
+    if a total differs by more than `near` allows. Totals are counted from the group's first sample,
+    or from 0 for groups in `creations`, which were created later. Returns the number of compared
     samples.
     """
     first: dict[tuple[str, str], Row] = {}
     count = 0
     for row in sorted(rows, key=lambda it: it.at):
         base = first.setdefault((row.group, row.resource), row)
-        start = (0, 0) if made and row.group in made else (base.some, base.full)
+        start = (0, 0) if creations and row.group in creations else (base.some, base.full)
         if row.at % 2 or not row.at:
             continue
-        told = found.get((int(row.at), row.group, row.resource))
-        must(told is not None, f"{row.group} {row.resource} is there at {row.at} s")
-        assert told
+        printed = found.get((int(row.at), row.group, row.resource))
+        must(printed is not None, f"{row.group} {row.resource} is there at {row.at} s")
+        assert printed
         wanted = row.some - start[0], row.full - start[1]
         if (row.group, row.resource) == ("/", "cpu"):
-            told, wanted = (told[0], 0), (wanted[0], 0)
+            printed, wanted = (printed[0], 0), (wanted[0], 0)
         is_near = all(
-            abs(one - other) <= near(row.group, row.resource) for one, other in zip(told, wanted)
+            abs(one - other) <= near(row.group, row.resource) for one, other in zip(printed, wanted)
         )
-        must(is_near, f"{row.group} {row.resource} at {row.at} s: {told} us, not {wanted} us")
+        must(is_near, f"{row.group} {row.resource} at {row.at} s: {printed} us, not {wanted} us")
         count += 1
     return count

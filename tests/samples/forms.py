@@ -1,4 +1,4 @@
-"""Checks that samples in all formats give the same trace, byte for byte."""
+"""Checks that the same samples in different formats give the same trace, byte for byte."""
 from __future__ import annotations
 
 import gzip
@@ -14,8 +14,8 @@ KINDS = {"some": "waiting", "full": "stalled"}
 
 
 def rows() -> list[Row]:
-    """Returns samples of a machine with a slice and two services. A group's path is the label `id`
-    in cAdvisor's format.
+    """Returns samples of a machine with a slice and two services. In cAdvisor's format, the label
+    `id` is the path of a group.
     """
     found = steady(
         "/", "io", TIMES, 0.2, 0.05, base=1000
@@ -31,7 +31,9 @@ def rows() -> list[Row]:
 
 
 def series() -> dict[tuple[str, str], list[tuple[float, str]]]:
-    """Returns the values of each metric and group with their times (s), as exporters write them."""
+    """Returns the values of each metric and group with their times (s), in the form in which
+    exporters write them.
+    """
     found: dict[tuple[str, str], list[tuple[float, str]]] = {}
     for row in rows():
         for level, total in (("some", row.some), ("full", row.full)):
@@ -83,8 +85,8 @@ def dump() -> str:
 
 
 def stale_dump() -> str:
-    """Returns a dump after a scrape that found no series: Prometheus marks the end of each series
-    by a NaN.
+    """Returns a dump in which each series ends with a NaN. Prometheus writes this mark if a scrape
+    no longer finds a series.
     """
     heads = dict.fromkeys(line.rpartition("} ")[0] for line in dump().splitlines())
     return dump() + "".join(f"{it}}} NaN {(START + TIMES[-1] + 5) * 1000}\n" for it in heads)
@@ -103,7 +105,9 @@ def json_lines() -> str:
 
 
 def loop() -> str:
-    """Returns the output of a shell loop of date and grep over pressure files."""
+    """Returns the samples as the output of a shell loop, which runs date, and grep on the pressure
+    files.
+    """
     lines = []
     for at in TIMES:
         lines.append(f"{START + at}.000000000")
@@ -119,7 +123,7 @@ def loop() -> str:
 
 
 def traces(room: Room, texts: Iterable[tuple[str, str | bytes]]) -> dict[str, str]:
-    """Returns the trace of each of these texts, by name."""
+    """Converts each of these texts, and returns the traces by name."""
     found = {}
     for name, text in texts:
         room.file("samples", text)
@@ -144,8 +148,8 @@ def check_all_formats_give_the_same_trace(program: str) -> None:
 
 
 def check_several_files_are_one(program: str) -> None:
-    """Several files are read as one: the root from one query, groups from another, and times that
-    overlap.
+    """Several files are treated as one. The root may come from one query and groups from another,
+    and the times of files may overlap.
     """
     with room_of(program) as room:
         room.file("all", csv(rows()))
@@ -159,7 +163,7 @@ def check_several_files_are_one(program: str) -> None:
 
 
 def check_names_of_groups(program: str) -> None:
-    """The options --rename, --groups and --labels change or select groups."""
+    """The options --rename, --groups and --labels rename or select groups."""
     with room_of(program) as room:
         room.file("samples", csv(rows()))
         room.make("samples", "--rename", "/a.slice=/system.slice/web", "--groups", "2")
@@ -179,7 +183,9 @@ def check_names_of_groups(program: str) -> None:
 
 
 def check_the_root_by_two_exporters(program: str) -> None:
-    """The root's totals come from node_exporter's series; only without these, from cAdvisor's."""
+    """The root's totals come from node_exporter's series, or from cAdvisor's if there are none of
+    node_exporter.
+    """
     answer = json.loads(prometheus())
     ours = [it for it in answer["data"]["result"] if it["metric"]["__name__"].startswith("node")]
     for it in ours:

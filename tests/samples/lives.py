@@ -1,4 +1,4 @@
-"""Checks of groups that are created, removed, or created again, of gaps between samples, and of
+"""Checks of groups that are created, removed or created again, of gaps between samples, and of
 memory samples.
 """
 from __future__ import annotations
@@ -16,7 +16,7 @@ EVENT = re.compile(r"^([0-9]+) (group|rmgroup) (/[^p].*)$", re.MULTILINE)
 
 
 def events(trace: str) -> list[tuple[float, str, str]]:
-    """Returns the time (s) and the path of each creation and removal of a group in a trace."""
+    """Returns the time (s) and the path of each creation and each removal of a group in a trace."""
     return [(int(at) / 1e9, verb, path) for at, verb, path in EVENT.findall(trace)]
 
 
@@ -27,8 +27,8 @@ def root() -> list[Row]:
 
 
 def check_groups_come_and_go(program: str) -> None:
-    """In the trace, /new is created between 35 and 40 s, /old is removed after 60 s, and /stays
-    exists throughout.
+    """/new is created between 35 and 40 s, /old is removed after 60 s, and /stays exists during the
+    whole trace.
     """
     new = steady("/new", "io", range(40, 121, 5), 0.5, 0.1, start=37.0)
     old, stays = steady("/old", "io", range(0, 61, 5), 0.3, 0.0), steady(
@@ -46,13 +46,15 @@ def check_groups_come_and_go(program: str) -> None:
         must(times[0] == 0 and 34 <= times[1] < 40 and 60 <= times[2] < 62,
              f"when they do: {times}")
         totals = room.totals()
-        must_match(totals, [*root(), *new, *old, *stays], made={"/new": 37.0})
+        must_match(totals, [*root(), *new, *old, *stays], creations={"/new": 37.0})
         must((64, "/old", "io") not in totals and (34, "/new", "io") not in totals,
              "they aren't there before and after")
 
 
 def check_a_group_that_begins_anew(program: str) -> None:
-    """A group whose total falls, or that is missing from more than two readings, is a new group."""
+    """If a group's total falls, or the group is missing from more than two readings, it counts as a
+    new group.
+    """
     first = steady("/again", "io", range(0, 41, 5), 0.5, 0.0, base=10_000_000)
     second = steady("/again", "io", range(45, 81, 5), 0.2, 0.0, start=42.0)
     third = steady("/again", "io", range(105, 121, 5), 0.3, 0.0, start=104.0)
@@ -66,7 +68,8 @@ def check_a_group_that_begins_anew(program: str) -> None:
         totals = room.totals()
         must_match(totals, [*root(), *first])
         for part, start in ((second, 42.0), (third, 104.0)):
-            must_match(totals, [it for it in part if it.at > start + 5], made={"/again": start})
+            must_match(totals, [it for it in part if it.at > start + 5],
+                       creations={"/again": start})
 
 
 def check_a_group_above_that_begins_anew(program: str) -> None:
@@ -95,8 +98,8 @@ def check_a_group_above_that_begins_anew(program: str) -> None:
 
 
 def check_gaps(program: str) -> None:
-    """In a gap of two minutes without samples, groups continue to exist, and totals grow evenly. A
-    root whose totals fall starts again.
+    """During a gap of two minutes without samples, groups continue to exist, and their totals grow
+    evenly. If the root's totals fall, they start again.
     """
     times = [*range(0, 61, 5), *range(180, 241, 5)]
     found = [
@@ -125,8 +128,8 @@ def check_gaps(program: str) -> None:
 
 
 def check_memory(program: str) -> None:
-    """Memory samples are in the trace at their times, and more are interpolated if memory changes
-    much between two samples. Rules use these values.
+    """The trace has memory samples at their times. If memory changes much between two samples,
+    further samples are interpolated. Rules use all of them.
     """
     sizes = [
         f"{START + at}.000,/a,mem,{100_000_000 + at * 10_000_000},0,{at * 100}" for at in TIMES
@@ -165,7 +168,7 @@ def check_memory(program: str) -> None:
 
 
 def check_rules_see_idle_groups(program: str) -> None:
-    """A group without pressure has a task too, so a rule can select it."""
+    """Even a group without pressure has a task, so that rules can select the group."""
     sizes = [
         f"{START + at}.000,{path},mem,{size},0,0" for at in TIMES for path, size in (
             ("/a", 1000), ("/idle", 900_000)
@@ -196,7 +199,7 @@ def check_rules_see_idle_groups(program: str) -> None:
 
 
 def check_a_past(program: str) -> None:
-    """With --lead-in, averages begin with the values that the samples had."""
+    """With --lead-in, averages begin with the averages in the samples."""
     lines = []
     for at in TIMES:
         for path in ("/", "/a"):
@@ -222,8 +225,8 @@ def check_a_past(program: str) -> None:
 
 
 def check_averages_say_when_a_total_grew(program: str) -> None:
-    """For a stall of 10 s at the end of an interval of 30 s, the trace is more accurate if the
-    samples include avg10.
+    """If the samples include avg10, the trace is more accurate. The stall in this check takes 10 s
+    at the end of an interval of 30 s.
     """
 
     def total(at: float) -> float:

@@ -1,6 +1,4 @@
-"""Checks of tools/sample, which samples pressure files in a loop, on a folder in place of a
-machine.
-"""
+"""Checks of tools/sample, which samples pressure files in a loop. A folder replaces the machine."""
 from __future__ import annotations
 
 import gzip
@@ -21,8 +19,8 @@ MEMINFO = (
 
 
 def machine(room: Room) -> None:
-    """Writes the files of a machine with a slice, a service whose name has a blank, and a group
-    that can't be read.
+    """Writes the files of a machine with a slice, a service whose name contains a blank, and a
+    group that can't be read.
     """
     for resource in ("io", "memory", "cpu"):
         room.file(f"top/proc/pressure/{resource}", PRESSURE.format(some=1000, full=10))
@@ -57,7 +55,7 @@ def check_one_round(program: str) -> None:
 
 
 def check_samples_of_rounds(program: str) -> None:
-    """tools/samples reads the files that tools/sample writes."""
+    """tools/samples accepts the files that tools/sample writes."""
     with room_of(program) as room:
         machine(room)
         room.run("sample", "--root", "top", "--every", "1", "--seconds", "4", "--into", "out.csv",
@@ -69,8 +67,8 @@ def check_samples_of_rounds(program: str) -> None:
 
 
 def check_full_files_are_put_aside(program: str) -> None:
-    """Full files are renamed: the newest of them has the number 1, and at most as many are kept as
-    --files allows.
+    """A full file is compressed and gets the number 1, and older files get the next numbers. The
+    option --files limits the number of these files.
     """
     with room_of(program) as room:
         machine(room)
@@ -105,7 +103,7 @@ def check_what_it_says_of_faults(program: str) -> None:
 
 
 def check_it_stands_alone(program: str) -> None:
-    """tools/sample is a single file that runs without the rest of the repository."""
+    """tools/sample is a single file that runs without other files of the repository."""
     with room_of(program) as room:
         machine(room)
         with open(os.path.join(TOP, "tools/psisamples/loop.py"), encoding="utf-8") as file:

@@ -1,5 +1,5 @@
-"""Checks that samples of a long time become several overlapping traces, which the tools for rules
-treat as one trace.
+"""Checks that samples of a long time are converted to several overlapping traces. The tools for
+rules treat these traces as one.
 """
 from __future__ import annotations
 
@@ -19,14 +19,14 @@ from . import SECOND, START, Room, Row, csv, room_of, steady
 
 LENGTH = 5400
 TIMES = range(0, LENGTH + 1, 5)
-# The time (s) at which the group /late is created: only the last parts contain it.
+# The time (s) at which the group /late is created. Only the last traces contain the group.
 LATE = 4800
 # The intervals (s) in which /a stalls for memory.
 STALLS = [(600 * it, 600 * it + 60) for it in range(1, 9)]
 
 
 def stalled(at: float) -> float:
-    """Returns for how long (s) /a has stalled up to the time `at` (s)."""
+    """Returns the total time (s) for which /a has stalled until the time `at` (s)."""
     return sum(min(max(at - begin, 0), end - begin) for begin, end in STALLS)
 
 
@@ -65,8 +65,8 @@ def rules() -> str:
 
 
 def make(room: Room) -> list[str]:
-    """Converts the samples to several traces, and returns their names, of which it.trace is the
-    first.
+    """Converts the samples to several traces, and returns the names of the traces. The first one is
+    it.trace.
     """
     room.file("rules.json", rules())
     room.file("samples", csv(rows()))
@@ -81,7 +81,9 @@ def make(room: Room) -> list[str]:
 
 
 def check_parts_are_one(program: str) -> None:
-    """The kills in all parts are those in one whole trace, each reported once, even in overlaps."""
+    """The kills in all parts are the kills in the single whole trace. A kill in an overlap is
+    reported once.
+    """
     with room_of(program) as room:
         names = make(room)
         room.run("samples", "samples", "-o", "whole.trace", status=0)
@@ -106,7 +108,7 @@ def check_parts_are_one(program: str) -> None:
 
 
 def check_fleet_takes_parts_as_one(program: str) -> None:
-    """tools/fleet counts the parts as one trace, and a kill in an overlap once."""
+    """tools/fleet counts the parts as one trace. A kill in an overlap counts once."""
     parts = (Sampled(5 * SECOND, 5 * SECOND, False, 7, 1, 0, 0),
              Sampled(5 * SECOND, 5 * SECOND, False, 7, 2, 2700 * SECOND, 900 * SECOND))
     kills = ((1000, 3000), (300, 1200))
@@ -133,7 +135,7 @@ def check_fleet_takes_parts_as_one(program: str) -> None:
 
 
 def check_totals_of_parts(program: str) -> None:
-    """In each part, totals grow like those of the samples from the part's start on."""
+    """In each part, totals grow from the part's start as in the samples."""
     with room_of(program) as room:
         for name in make(room):
             found = re.search(r"start-ms:(\d+):skip-ms:(\d+)$", room.text(name).splitlines()[1])
@@ -149,7 +151,7 @@ def check_totals_of_parts(program: str) -> None:
 
 
 def check_from_and_to(program: str) -> None:
-    """A window of the samples may be given in seconds or by times of day."""
+    """A time window of the samples is selected by seconds or by times of day."""
     with room_of(program) as room:
         room.file("samples", csv(rows()))
         room.make("samples", "--from", "590", "--to", "690")
@@ -165,7 +167,8 @@ def check_from_and_to(program: str) -> None:
 
 
 def check_rows_beyond_memory(_program: str) -> None:
-    """Rows that don't fit in memory are sorted in the same order, and may be read from any time on.
+    """Rows that don't fit in memory are returned in order, too. They can be read again from any
+    time on.
     """
     rng, store = random.Random(5), Store()
     rows = [

@@ -1,5 +1,5 @@
-"""Checks that bad input is rejected with its file and line and that nothing is written then; and
-that tools reject a trace of samples if it lacks what they need.
+"""Checks that bad samples are rejected with the file and the line, and that no trace is written
+then. Tools reject a trace of samples if it lacks the data that they need.
 """
 from __future__ import annotations
 
@@ -35,7 +35,7 @@ def answer(result: object, kind: str = "matrix") -> str:
 
 METRIC: dict[str, object] = {"__name__": "container_pressure_io_waiting_seconds_total", "id": "/a"}
 AT_40 = f"{START + 40}.000,/a,io,24000000,12000000\n"
-# By name: a bad text, and words of its error message.
+# Bad texts by name. Each has words that its error message must contain.
 BAD: dict[str, tuple[str, str]] = {
     "a time that goes back": (
         csv(rows()) + f"{START + 1}.000,/,io,1,1\n", "bad line 80: the time goes back"
@@ -106,14 +106,14 @@ BAD: dict[str, tuple[str, str]] = {
 
 def check_bad_input(program: str) -> None:
     with room_of(program) as room:
-        for name, (text, told) in BAD.items():
+        for name, (text, message) in BAD.items():
             room.file("bad", text)
             done = room.run("samples", "bad", "-o", "it.trace")
             must_be(f"the status of {name}, which said {done.said}", (done.status, done.output),
                     (2, ""))
             must(
                 done.said.startswith("samples: ")
-                and told in done.said
+                and message in done.said
                 and "Traceback" not in done.said,
                 f"{name}: {done.said}",
             )
@@ -124,7 +124,7 @@ def check_bad_input(program: str) -> None:
 def check_bad_words(program: str) -> None:
     with room_of(program) as room:
         room.file("samples", csv(rows()))
-        for words, told in (
+        for words, reason in (
             (["samples"], "required: -o/--output"), (["none", "-o", "x"], "no file: none"),
             (["samples", "-o", "x", "--groups", "0"], "isn't a whole number"),
             (["samples", "-o", "x", "--trigger", "/a io some 9 10"],
@@ -134,7 +134,7 @@ def check_bad_words(program: str) -> None:
             (["samples", "-o", "x", "--rename", "a"], "isn't OLD=/PATH"),
         ):  # fmt: skip
             done = room.run("samples", *words, status=2)
-            must(told in done.said, f"{words}: {done.said}")
+            must(reason in done.said, f"{words}: {done.said}")
         done = room.run("samples", "samples", "-o", "no/folder/x", status=2)
         must_be("a folder that isn't there", done.said,
                 "samples: no folder: no/folder, for no/folder/x\n")
@@ -155,39 +155,39 @@ def check_bad_words(program: str) -> None:
             must(done.said.startswith(f"samples: {message}"), f"{words}: {done.said}")
 
 
-def made(room: Room) -> None:
-    """Makes it.trace from samples without memory."""
+def make_trace(room: Room) -> None:
+    """Converts samples without memory to the trace it.trace."""
     room.file("samples", csv(rows()))
     room.make("samples", "--trigger", "/a io some 5000000 10000000")
 
 
 def check_tools_refuse_what_it_cant_answer(program: str) -> None:
     with room_of(program) as room:
-        made(room)
-        told = "it.trace was made of samples each 5 s: it doesn't say "
+        make_trace(room)
+        message = "it.trace was made of samples each 5 s: it doesn't say "
         for words, status in (
             (["blame", "it.trace"], 2),
             (["fold", "it.trace", "--window", "2", "--victims", "/a"], 2),
         ):
             done = room.run(*words, status=status)
-            must(told in done.said and not done.output, f"{words}: {done.said}")
+            must(message in done.said and not done.output, f"{words}: {done.said}")
         folded = room.run("fold", "it.trace", "--window", "2", status=0)
         room.file("it.trace", folded.output)
-        must(told in room.run("blame", "it.trace", status=2).said,
+        must(message in room.run("blame", "it.trace", status=2).said,
              "a folded trace still says what it was made of")
 
 
 def check_triggers(program: str) -> None:
-    """A trigger signals on a trace of samples in which /a waits for 6 of 10 s."""
+    """A trigger signals on a trace of samples. In the trace, /a waits for 6 of 10 s."""
     with room_of(program) as room:
-        made(room)
+        make_trace(room)
         printed = room.run("psi_oomd", "replay", "it.trace", "--report-s=0", status=0).output
         must(printed.count("event ") >= 4, f"signals: {printed}")
 
 
 def check_rules_on_samples(program: str) -> None:
-    """Rules about scans are rejected without samples of scans, and answers state the sampling
-    interval.
+    """Rules about scanned pages are rejected if the samples have no scanned pages. The output of
+    the tools states the sampling interval.
     """
     above = {
         "name": "pressure_above",
@@ -196,9 +196,9 @@ def check_rules_on_samples(program: str) -> None:
     size = {"name": "kill_by_pressure", "args": {"cgroup": "a", "resource": "io"}}
     scans = {"name": "kill_by_pg_scan", "args": {"cgroup": "a"}}
     with room_of(program) as room:
-        made(room)
+        make_trace(room)
         room.file("want", "kill /a by it\n")
-        for action, status, told in (
+        for action, status, message in (
             (size, 0, "(samples each 5 s)"), (scans, 2, "kill_by_pg_scan of rules.json needs them")
         ):
             rules = {
@@ -207,7 +207,7 @@ def check_rules_on_samples(program: str) -> None:
             room.file("rules.json", json.dumps(rules))
             done = room.run("rules", "expect", "want", "it.trace", "--rules", "rules.json",
                             status=status)
-            must(told in done.output + done.said, f"expect: {done.output}{done.said}")
+            must(message in done.output + done.said, f"expect: {done.output}{done.said}")
             done = room.run("rules", "sweep", "rules.json", "it.trace", "--vary",
                             "it/pressure_above.threshold=10,20", status=status)
             must(status or "sure to see full stalls of 21 s and more" in done.said,
@@ -220,8 +220,8 @@ def check_rules_on_samples(program: str) -> None:
 
 
 def check_the_mark_is_no_group(program: str) -> None:
-    """The group that marks a trace as made from samples matches neither expectations nor patterns
-    of rules, even if the trace is a file on standard input.
+    """Each trace of samples has a special group that marks it. Neither expectations nor patterns of
+    rules match this group, even if the trace comes from a file on standard input.
     """
     above = {
         "name": "pressure_above",
@@ -230,7 +230,7 @@ def check_the_mark_is_no_group(program: str) -> None:
     size = {"name": "kill_by_pressure", "args": {"cgroup": "a", "resource": "io"}}
     rules = {"rulesets": [{"name": "it", "detectors": [["it", above]], "actions": [size]}]}
     with room_of(program) as room:
-        made(room)
+        make_trace(room)
         room.file("rules.json", json.dumps(rules))
         room.file("want", "no kill of /psi-*\nat most 0 kills\n")
         for trace, text in (("it.trace", ""), ("-", room.text("it.trace"))):
@@ -246,7 +246,7 @@ def check_the_mark_is_no_group(program: str) -> None:
 
 def check_a_report_leaves_out_who_waited_for_whom(program: str) -> None:
     with room_of(program) as room:
-        made(room)
+        make_trace(room)
         room.run("report", "it.trace", "-o", "it.html", status=0)
         page = room.text("it.html")
         must("By samples each 5 s, so that short stalls may be missed" in page,

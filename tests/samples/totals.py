@@ -1,4 +1,5 @@
-"""Checks that a replay prints the sampled totals of stored recordings and of simulated trees."""
+"""Checks that a replay prints the sampled totals, for stored recordings and for simulated machines.
+"""
 from __future__ import annotations
 
 import os
@@ -21,8 +22,8 @@ STORED = os.path.join(TOP, "tests", "data")
 RECORDINGS = sorted(
     it.removesuffix(".tar.xz") for it in os.listdir(STORED) if it.endswith(".tar.xz")
 )
-# The largest percentage of a recording's totals that may be wrong. Each wrong total must be
-# reported.
+# The largest percentage of a recording's totals that may be wrong. Even so, each wrong total must
+# be reported.
 MOST_OFF = 1.5
 OFF = re.compile(
     r"samples: (\S+) (io|memory|cpu) (some|full): (\d+) totals are off, by (\d+) us at most"
@@ -36,8 +37,8 @@ READING = re.compile(
 
 
 class Summary(NamedTuple):
-    """The summary that tools/samples prints for a trace: how many totals it compared, how many are
-    wrong, and the largest error (us) by group and resource.
+    """The summary of tools/samples about a trace: the number of compared totals, the number of
+    wrong ones, and the largest error (us) by group and resource.
     """
 
     compared: int
@@ -45,7 +46,7 @@ class Summary(NamedTuple):
     most: dict[tuple[str, str], int]
 
     def near(self, path: str, resource: str) -> int:
-        """Returns the largest allowed error (us) of a group's total of a resource."""
+        """Returns the largest allowed error (us) of the totals of a group and a resource."""
         return max(2, self.most.get((path, resource), 0))
 
 
@@ -61,8 +62,8 @@ def summary_of(said: str) -> Summary:
 
 
 def growths(text: str) -> dict[tuple[str, str], tuple[int, int]]:
-    """Returns by how much (us) the totals of each pressure file grew from the first reading to the
-    last, for groups that are in all readings.
+    """Returns the growth (us) of the totals of each pressure file from the first reading to the
+    last. Only groups that are in all readings are included.
     """
     found: dict[tuple[str, str], list[tuple[int, int]]] = {}
     numbers = set()
@@ -86,7 +87,7 @@ def recordings(room: Room) -> Iterator[tuple[str, str]]:
 
 def check_stored_recordings(program: str) -> None:
     """The last printed totals lie between the machine's last two readings, since the last tick is
-    at the last reading or later.
+    at or after the last reading.
     """
     with room_of(program) as room:
         for name, folder in recordings(room):
@@ -109,8 +110,8 @@ def check_stored_recordings(program: str) -> None:
 
 
 def simulated(room: Room, machine: Machine, every: int) -> list[Row]:
-    """Writes the samples of a simulated machine, taken every `every` s, to it.csv, and returns the
-    rows of pressure.
+    """Writes a simulated machine's samples, one each `every` s, to it.csv. Returns the rows of
+    pressure.
     """
     trace = os.path.join(room.path, "machine.trace")
     with open(trace, "w", encoding="ascii") as file:
@@ -126,8 +127,8 @@ def simulated(room: Room, machine: Machine, every: int) -> list[Row]:
 
 
 def must_reproduce(program: str, machine: Machine, every: int, most_off: float) -> None:
-    """Raises unless all totals of a machine are printed as sampled, except `most_off` percent, each
-    of which is reported.
+    """Raises unless the replay prints a machine's totals as sampled. At most `most_off` percent of
+    them may be wrong, and each of those must be reported.
     """
     with room_of(program) as room:
         rows = simulated(room, machine, every)
@@ -155,7 +156,8 @@ def check_tree_of_1000_groups(program: str) -> None:
 
 
 def check_a_wrong_program_is_seen(program: str) -> None:
-    """If the replay contradicts the samples, the status is 4, and nothing is written."""
+    """If the replay contradicts the samples, tools/samples ends with status 4 and writes nothing.
+    """
     with room_of(program) as room:
         simulated(room, Machine(15, 20, 4, small_tree(3), 3), 2)
         script = (
@@ -171,7 +173,7 @@ def check_a_wrong_program_is_seen(program: str) -> None:
 
 
 def check_totals_of_wakeups_by_the_program(program: str) -> None:
-    """psi_oomd accepts the trace, whose additional tasks have numbers that no kernel assigns."""
+    """psi_oomd accepts the trace. Its additional tasks have numbers that no kernel assigns."""
     with room_of(program) as room:
         simulated(room, Machine(16, 20, 4, small_tree(3), 3), 2)
         room.make("it.csv")

@@ -1,5 +1,5 @@
-"""Computes the clocks of the groups that had a path, after each change of each processor, and the
-ticks of a trace, from the rules of the documentation alone.
+"""Computes the ticks of a trace, and the state times of each group that had a given path, after
+each change of each processor. It follows only the rules of the documentation.
 """
 from __future__ import annotations
 
@@ -9,15 +9,16 @@ from collections.abc import Iterable
 from shared.machine import Machine
 
 NO_TIMES = [0] * 7
-# By the group's number: the times (ns) of its states, and whether each state holds.
+# The times (ns) of a group's seven states, and whether each state holds. The key is the group's
+# number.
 Times = dict[int, list[int]]
 States = dict[int, list[bool]]
 
 
 @dataclasses.dataclass
 class Tick:
-    """A tick: its time (ns), the group that has the path then (None if no group has), and how many
-    changes each processor had before the tick.
+    """A tick: its time (ns), the group that has the path at this time (None if no group has it),
+    and the number of changes of each processor before the tick.
     """
 
     moment: int
@@ -26,8 +27,9 @@ class Tick:
 
 
 class Clocks:
-    """The times (ns) of the groups that had the path, on each processor after each of its changes,
-    and the ticks.
+    """The ticks of a trace, and the state times (ns) of each group that had the path `path`. The
+    times are kept for each processor, after each of its changes. `tick` is the length of a tick
+    (ns).
     """
 
     def __init__(self, trace: str, path: str, tick: int) -> None:
@@ -38,8 +40,8 @@ class Clocks:
         states: list[States] = [{} for _ in cpus]
         self.changes: list[list[tuple[int, Times, States]]] = [[(0, {}, {})] for _ in cpus]
         self.ticks: list[Tick] = []
-        for moment, *event in (line.split(" ") for line in lines):
-            now = int(moment)
+        for time_ns, *event in (line.split(" ") for line in lines):
+            now = int(time_ns)
             while (len(self.ticks) + 1) * tick < now:
                 self.end_tick(tick, machine, path)
             for cpu in cpus:
@@ -57,19 +59,21 @@ class Clocks:
             self.end_tick(tick, machine, path)
 
     def end_tick(self, tick: int, machine: Machine, path: str) -> None:
-        """Adds the next tick to the list of ticks."""
+        """Appends the next tick, whose length is `tick` ns, to the list of ticks."""
         counts = [len(changes) - 1 for changes in self.changes]
         self.ticks.append(Tick((len(self.ticks) + 1) * tick, machine.live.get(path), counts))
 
     def times(self, tick: Tick, cpu: int, count: int, at: int) -> list[int]:
-        """Returns the times (ns) of the tick's group after `count` changes of the processor,
-        extended to the time `at` (ns).
+        """Returns the state times (ns) of the tick's group on the processor `cpu` after `count` of
+        its changes. States that hold after the last of these changes continue until `at` (ns).
         """
-        moment, times, states = self.changes[cpu][count]
+        time_ns, times, states = self.changes[cpu][count]
         group = -1 if tick.group is None else tick.group
-        return opened(times.get(group, NO_TIMES), states.get(group, NO_TIMES), at - moment)
+        return opened(times.get(group, NO_TIMES), states.get(group, NO_TIMES), at - time_ns)
 
 
 def opened(times: list[int], holds: Iterable[int], length: int) -> list[int]:
-    """Returns the times (ns), increased by `length` ns for each state that holds."""
+    """Returns the state times (ns) after `length` more ns. Only the times of states that hold
+    increase.
+    """
     return [time + length if is_held else time for time, is_held in zip(times, holds)]

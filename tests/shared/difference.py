@@ -1,18 +1,19 @@
-"""Shows how two values differ, as a unified diff."""
+"""Shows the difference of two values as a unified diff."""
 from __future__ import annotations
 
 import difflib
 import pprint
 from collections.abc import Mapping, Sequence
 
-# Longer lines are wrapped at this column, so that a difference within a long line is visible.
+# Longer lines are wrapped at this column, so that a difference in the middle of a long line is
+# visible.
 COLUMNS = 160
-# The largest number of lines of a difference that are shown: more are cut in the middle.
+# The largest number of lines in a difference. A longer one is cut in the middle.
 MOST_LINES = 80
 
 
 def wrapped(line: str) -> list[str]:
-    """Returns the line in pieces of at most COLUMNS characters."""
+    """Splits a line into pieces of at most COLUMNS characters."""
     return [line[at : at + COLUMNS] for at in range(0, len(line), COLUMNS)] or [""]
 
 
@@ -31,8 +32,8 @@ def text_lines(text: str) -> list[str]:
 
 
 def lines_of(value: object) -> list[str]:
-    """Returns a value as a list of lines: the lines of a text, or the lines of each item of a
-    sequence or mapping.
+    """Returns a value as a list of lines. For a text these are its lines, and for a sequence or
+    mapping the lines of all items.
     """
     if isinstance(value, (bytes, bytearray)):
         return lines_of(value.decode("utf-8", "backslashreplace"))
@@ -50,7 +51,7 @@ def lines_of(value: object) -> list[str]:
 
 
 def item_lines(name: str, item: object) -> list[str]:
-    """Returns the lines of an item, preceded by its name if the name isn't empty."""
+    """Returns the lines of an item. If `name` isn't empty, the name precedes the first line."""
     lines = lines_of(item) if isinstance(item, (str, bytes)) else [repr(item)]
     lines = [piece for line in lines for piece in wrapped(line)]
     head = f"{name}: " if name else ""
@@ -58,8 +59,8 @@ def item_lines(name: str, item: object) -> list[str]:
 
 
 def cut(lines: list[str]) -> list[str]:
-    """Returns the lines; if there are more than MOST_LINES, only the first and the last, with the
-    number of lines between them.
+    """Returns the lines. If there are more than MOST_LINES, one line with their number replaces the
+    lines in the middle.
     """
     if len(lines) <= MOST_LINES:
         return lines
@@ -72,7 +73,7 @@ def cut(lines: list[str]) -> list[str]:
 
 
 def difference(expected: object, actual: object) -> str:
-    """Returns a text that shows how the actual value differs from the expected one."""
+    """Returns a text that shows the difference of the actual and the expected value."""
     old, new = lines_of(expected), lines_of(actual)
     if len(old) <= 1 and len(new) <= 1 or old == new:
         return f"  expected: {expected!r}\n  actual:   {actual!r}"

@@ -1,4 +1,4 @@
-"""Traces written by hand; each exercises some rule of docs/PRESSURE.md."""
+"""Traces written by hand. Each tests a particular rule of docs/PRESSURE.md."""
 from __future__ import annotations
 
 STALLS = """psitrace 1 cpus=1
@@ -95,7 +95,7 @@ STALLS_ASLEEP = """psitrace 1 cpus=2
 3500000000 unstall 2
 5000000000 end
 """
-# The trace for which docs/COMMANDS.md shows a live line.
+# The trace for which docs/COMMANDS.md shows a live line as an example.
 BETWEEN = """psitrace 1 cpus=1
 0 fork 1 / 0
 0 switch 0 1 idle
@@ -103,7 +103,7 @@ BETWEEN = """psitrace 1 cpus=1
 1500000000 wake 1 0
 2000000000 end
 """
-# At most events of this trace no count of tasks changes, but each event is a change of its
+# Most events of this trace change no count of tasks, but each event counts as a change of its
 # processor.
 NOTHING_DIFFERS = """psitrace 1 cpus=2
 0 switch 0 0 idle
@@ -124,8 +124,8 @@ IDLE = """psitrace 1 cpus=2
 0 switch 0 0 iowait
 9000000000 end
 """
-# Interrupts (`irq` lines) are changes, also on an idle processor. They begin and end no state, and
-# lines of `live` don't contain their time.
+# Interrupts (`irq` lines) count as changes, even on an idle processor. They begin and end no state,
+# and live lines don't contain their time.
 INTERRUPTS = """psitrace 2 cpus=2
 0 irq 0 0
 0 group /a
@@ -140,8 +140,8 @@ INTERRUPTS = """psitrace 2 cpus=2
 2500000000 irq 0 1
 3000000000 end
 """
-# The account of /a is switched off over a tick and over a change of its task. Another group is off
-# while its child is on. A group is removed and created again.
+# The pressure accounting of /a is off during a tick and during a change of its task. Another group
+# is off while its child is on. One group is removed and created again.
 SWITCHED = """psitrace 2 cpus=2
 0 group /a
 0 group /a/b
@@ -172,8 +172,8 @@ NO_TICK = """psitrace 1 cpus=2
 999999999 end
 """
 MANY = "psitrace 1 cpus=64\n" + "".join(
-    f"{moment} {event}\n"
-    for moment, event in (
+    f"{time_ns} {event}\n"
+    for time_ns, event in (
         *((0, f"fork {cpu + 1} / {cpu}") for cpu in range(0, 64, 3)),
         *((cpu * 10 * 10**6, f"switch {cpu} {cpu + 1} idle") for cpu in range(0, 64, 3)),
         *((700 * 10**6, f"switch {cpu} 0 iowait") for cpu in range(0, 64, 6)),

@@ -1,4 +1,6 @@
-"""Makes random ftrace texts: lines that a scheduler could have printed, with and without faults."""
+"""Makes random ftrace texts. A scheduler could have printed their lines. Optionally, the texts
+contain random faults.
+"""
 from __future__ import annotations
 
 import random
@@ -36,8 +38,8 @@ PIECES = (
 
 @dataclass
 class Scheduler:
-    """Simulates tasks on some processors that do only what a scheduler allows, and prints the
-    ftrace lines that report it. Times are in us.
+    """Simulates tasks on some processors, and prints ftrace lines about them. The tasks do only
+    what a real scheduler allows. Times are in us.
     """
 
     rng: random.Random
@@ -51,28 +53,31 @@ class Scheduler:
     others: tuple[bytes, ...] = OTHERS
 
     def line(self, cpu: int, event: bytes) -> bytes:
-        """Returns the ftrace line of an event on this processor; the form of its head is random."""
-        moment = b"%d.%06d" % divmod(self.now, 10**6)
+        """Returns the ftrace line of an event on this processor. The format of the line's head is
+        random.
+        """
+        time = b"%d.%06d" % divmod(self.now, 10**6)
         return self.rng.choice(HEADS) % (
-            self.name(), self.runs.get(cpu, 0), cpu, moment
+            self.name(), self.runs.get(cpu, 0), cpu, time
         ) + event + b"\n"
 
     def name(self) -> bytes:
-        """Returns a random task name. `import` ignores names."""
+        """Returns a random task name, which `import` ignores."""
         return self.rng.choice(self.names)
 
     def switch(self, cpu: int, state: bytes, pid: int) -> bytes:
-        """Returns the line of a context switch: the running task leaves the processor `cpu` in the
-        state `state`, and task `pid` runs next, or none if that is 0.
+        """Switches the processor `cpu` to task `pid`, or to the idle task if `pid` is 0, and
+        returns the line. `state` is the state (prev_state) in which the previous task leaves the
+        processor.
         """
         before = self.runs.pop(cpu, 0)
-        left = b"prev_comm=%b prev_pid=%d prev_prio=120 prev_state=%b" % (
+        prefix = b"prev_comm=%b prev_pid=%d prev_prio=120 prev_state=%b" % (
             self.name(), before, state
         )
         line = self.line(
             cpu,
             b"sched_switch: %b ==> next_comm=%b next_pid=%d next_prio=120"
-            % (left, self.name(), pid),
+            % (prefix, self.name(), pid),
         )
         if before:
             self.modes[before] = (
@@ -83,15 +88,15 @@ class Scheduler:
         return line
 
     def wakeup(self, pid: int) -> bytes:
-        """Wakes a task that is asleep or has exited; returns the line that reports it."""
+        """Wakes a task that is asleep or that has exited, and returns the line."""
         cpu = self.rng.randrange(self.cpus)
         event = b"sched_wakeup_new" if self.modes.get(pid, "gone") == "gone" else b"sched_wakeup"
         self.modes[pid], self.places[pid] = "ready", cpu
-        told = b"%b: comm=%b pid=%d prio=120 target_cpu=%03d" % (event, self.name(), pid, cpu)
-        return self.line(self.rng.randrange(self.cpus), told)
+        fields = b"%b: comm=%b pid=%d prio=120 target_cpu=%03d" % (event, self.name(), pid, cpu)
+        return self.line(self.rng.randrange(self.cpus), fields)
 
     def step(self) -> bytes:
-        """Makes one random event and returns its line."""
+        """Executes a random event and returns its line."""
         self.now += self.rng.choice((0, 1, 7, 1000, 300_000))
         pid = self.rng.randint(1, self.tasks)
         mode = self.modes.get(pid, "gone")
@@ -102,21 +107,22 @@ class Scheduler:
             return self.switch(cpu, self.rng.choice([it for it in STATES if it[:1] != b"R"]), 0)
         if self.rng.random() < 0.3:
             self.places[pid] = self.rng.randrange(self.cpus)
-            told = b"comm=%b pid=%d prio=120 orig_cpu=%d dest_cpu=%d" % (
+            fields = b"comm=%b pid=%d prio=120 orig_cpu=%d dest_cpu=%d" % (
                 self.name(), pid, cpu, self.places[pid]
             )
-            return self.line(cpu, b"sched_migrate_task: " + told)
+            return self.line(cpu, b"sched_migrate_task: " + fields)
         return self.switch(cpu, self.rng.choice(STATES) if self.runs.get(cpu) else b"R", pid)
 
     def text(self, count: int) -> bytes:
-        """Returns a text of `count` events, with other lines among them."""
+        """Returns a text with `count` lines. Most lines are events, and some have other contents.
+        """
         is_other = [bool(self.others) and self.rng.random() < 0.05 for _ in range(count)]
         return b"".join(self.rng.choice(self.others) if it else self.step() for it in is_other)
 
 
 def spoiled(rng: random.Random, text: bytes) -> bytes:
-    """Returns the text with a few faults: changed bytes, pieces inserted or removed, lines moved,
-    doubled or dropped.
+    """Returns the text with a few faults: bytes are changed, pieces are inserted or removed, and
+    lines are moved, repeated or removed.
     """
     data = text
     for _ in range(rng.choice((0, 1, 1, 2, 3))):

@@ -1,5 +1,5 @@
-"""Computes tasks, groups and states after each event of a trace. States are derived from the tasks
-by the rules of docs/PRESSURE.md alone.
+"""Computes the tasks, groups and states after each event of a trace. The states are derived from
+the tasks by the rules of docs/PRESSURE.md.
 """
 from __future__ import annotations
 
@@ -9,7 +9,7 @@ import dataclasses
 
 @dataclasses.dataclass
 class Task:
-    """A task: its group, its processor, and its state `at`: "ready", "running", "sleep" or
+    """A task: its group, its processor, and its state `at`, which is "ready", "running", "sleep" or
     "iowait".
     """
 
@@ -21,11 +21,11 @@ class Task:
 
 class Machine:
     """The state of the machine after some events of a valid trace. Groups are numbered in the order
-    of their creation; 0 is the root.
+    of their creation. Group 0 is the root.
 
-    `off` contains the groups whose account is switched off. `interrupts` is, by processor and
-    group, how long (ns) interrupts ran while the group's account was on and one of its tasks was
-    running there.
+    `off` has the groups whose pressure accounting is off. `interrupts` has the time (ns) of
+    interrupts by processor and group. It counts interrupts while a task of the group ran on the
+    processor and the group's accounting was on.
     """
 
     def __init__(self, cpus: int) -> None:
@@ -43,12 +43,14 @@ class Machine:
         return group == top
 
     def running(self, cpu: int) -> list[str]:
-        """Returns the numbers of the tasks that run on the processor: one or none."""
+        """Returns a list with the number of the task that runs on the processor, or an empty list
+        if it is idle.
+        """
         return [pid for pid, task in self.tasks.items() if task.cpu == cpu and task.at == "running"]
 
     def holds(self, cpu: int, group: int) -> list[bool]:
-        """Returns whether each of the seven states holds for the group on the processor. No state
-        holds while the group's account is switched off.
+        """Returns for each of the seven states whether it holds for the group on the processor. If
+        the group's pressure accounting is off, no state holds.
         """
         if group in self.off:
             return [False] * 7
@@ -76,7 +78,7 @@ class Machine:
         ]
 
     def take(self, verb: str, *fields: str) -> set[int]:
-        """Applies an event, and returns the set of processors for which it is a change."""
+        """Applies an event. Returns the processors for which the event counts as a change."""
         changed: set[int] = getattr(self, f"take_{verb}")(*fields)
         return changed
 
@@ -124,7 +126,8 @@ class Machine:
 
     def take_irq(self, cpu: str, length: str) -> set[int]:
         """Adds `length` ns of interrupts to the running task's group and to its ancestors, except
-        groups whose account is off. The event is a change of the processor even if nothing runs.
+        those whose accounting is off. The event counts as a change of the processor even if nothing
+        runs.
         """
         for pid in self.running(int(cpu)):
             group: int | None = self.tasks[pid].group
@@ -135,12 +138,14 @@ class Machine:
         return {int(cpu)}
 
     def take_pressure(self, path: str, switched: str) -> set[int]:
-        """Switches the account of a group on or off. This is a change of every processor."""
+        """Switches the pressure accounting of a group on or off. This counts as a change of every
+        processor.
+        """
         (self.off.discard if switched == "on" else self.off.add)(self.live[path])
         return set(range(self.cpus))
 
     def take_other(self, *_: str) -> set[int]:
-        """Ignores an event that is no change of any processor."""
+        """Ignores an event that changes no processor."""
         return set()
 
     take_prefer = take_mem = take_host = take_trigger = take_end = take_other

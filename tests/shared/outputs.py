@@ -1,4 +1,4 @@
-"""Runs of the program, and of tools that draw, convert or show its output."""
+"""Runs the program, and tools that draw, convert or print its output."""
 from __future__ import annotations
 
 import functools
@@ -19,22 +19,23 @@ RUNAWAY = (
 )
 
 
-def run(words: Sequence[str], given: bytes = b"") -> bytes:
-    """Returns the output of a command, which must succeed."""
-    done = subprocess.run(words, cwd=TOP, input=given, capture_output=True)
+def run(words: Sequence[str], stdin: bytes = b"") -> bytes:
+    """Runs a command, which must succeed, and returns its output."""
+    done = subprocess.run(words, cwd=TOP, input=stdin, capture_output=True)
     must_be(f"the status of {words}, which said {done.stderr!r}", done.returncode, 0)
     return done.stdout
 
 
 @functools.lru_cache(maxsize=None)
 def story(program: str) -> bytes:
-    """Returns the output of psi_oomd's replay of examples/runaway.trace (the story)."""
+    """Returns the output of a replay of the example runaway.trace, which the tests call the story.
+    """
     return run([program, *RUNAWAY])
 
 
 def fault_of(tool: str, printed: bytes, *words: str, status: int = 2, **variables: str) -> str:
-    """Returns the tool's message for a fault. The tool must print nothing else and exit with this
-    status. The variables are added to the environment.
+    """Runs a tool, which must exit with this status and print only a message. Returns the message.
+    `variables` are added to the environment.
     """
     at = {**os.environ, **variables}
     done = subprocess.run([tool, *words], cwd=TOP, input=printed, capture_output=True, env=at)

@@ -1,8 +1,8 @@
-"""Computes who ran while a group waited, and who stalled at the same time, without optimization:
-the reference for tools/blame.
+"""Computes who ran while a group waited, and which groups stalled at the same time. This is the
+reference implementation for tools/blame, without optimizations.
 
-It follows docs/TRACES.md alone: after each event it examines all tasks of tests/shared/machine.py,
-on each processor, for each group.
+It follows docs/TRACES.md: after each event it examines all tasks of tests/shared/machine.py, on
+each processor, for each group.
 """
 from __future__ import annotations
 
@@ -12,14 +12,17 @@ from typing import NamedTuple, Optional
 from shared.machine import Machine
 
 WAITS_FOR_IO, IN_A_STALL, WAITS = 0, 2, 4
-# Times (ns) by the group that waited and by the group that ran (or was in the same state). Groups
-# are numbered in the order of their creation; None means that no task ran.
+# Times (ns) by two groups: the waiting group, and the group that ran or was in the same state.
+# Groups are numbered in order of creation. None means that no task ran.
 Pairs = collections.Counter[tuple[int, Optional[int]]]
 
 
 class Plain(NamedTuple):
-    """The sums (ns) of an interval. `times` is by group, processor and state. `less` is, by group,
-    how much less it would have waited without the victim.
+    """The sums of time (ns) for an interval. `ran` is by group, and `times` by group, processor and
+    state. `while_ran` has the time for which a group waited while another ran, and `beside` has, by
+    state, the time for which two groups were both in it. `while_victim` is the time for which a
+    group waited while the victim ran. `less` is the time by which it would have waited less without
+    the victim.
     """
 
     ran: collections.Counter[int]
@@ -37,8 +40,9 @@ def runner_of(machine: Machine, cpu: int) -> Optional[int]:
 
 
 def would_wait(machine: Machine, cpu: int, victims: set[int]) -> bool:
-    """Returns whether a task would still wait on the processor without the tasks of the groups
-    `victims`, one of which runs there: true if two or more other tasks are ready.
+    """Returns whether a task would still wait on the processor if the tasks of the groups `victims`
+    didn't exist. A task of these groups runs there now. Without it, a ready task would run in its
+    place, and a second ready task would wait.
     """
     ready = [
         task
@@ -49,7 +53,7 @@ def would_wait(machine: Machine, cpu: int, victims: set[int]) -> bool:
 
 
 def add_stretch(plain: Plain, machine: Machine, victims: set[int], length: int) -> None:
-    """Adds `length` ns to each sum to which the machine's present state contributes."""
+    """Adds `length` ns to each sum for which the machine's present state counts."""
     groups, cpus = range(len(machine.parents)), range(machine.cpus)
     holds = {(group, cpu): machine.holds(cpu, group) for group in groups for cpu in cpus}
     for cpu in cpus:
@@ -72,8 +76,8 @@ def add_stretch(plain: Plain, machine: Machine, victims: set[int], length: int) 
 
 
 def walk(trace: str, start: int, to: int, victim: str) -> Plain:
-    """Returns the sums from `start` to `to` (ns). The victim is all groups that have the path
-    `victim`, and the groups below them.
+    """Returns the sums for the interval from `start` to `to` (ns). The victim consists of all
+    groups that ever have the path `victim`, and of their descendants.
     """
     header, *lines = trace.splitlines()
     machine = Machine(int(header.partition("cpus=")[2]))
@@ -85,14 +89,14 @@ def walk(trace: str, start: int, to: int, victim: str) -> Plain:
     victims = {0} if victim == "/" else set[int]()
     last = 0
     for line in lines:
-        moment, verb, *fields = line.split(" ")
-        length = min(int(moment), to) - max(last, start)
+        time_ns, verb, *fields = line.split(" ")
+        length = min(int(time_ns), to) - max(last, start)
         if length > 0:
             add_stretch(plain, machine, victims, length)
-        last = int(moment)
+        last = int(time_ns)
         machine.take(verb, *fields)
         if verb == "group":
-            made = machine.live[fields[0]]
-            if fields[0] == victim or machine.parents[made] in victims:
-                victims.add(made)
+            group = machine.live[fields[0]]
+            if fields[0] == victim or machine.parents[group] in victims:
+                victims.add(group)
     return plain

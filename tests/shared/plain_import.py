@@ -1,5 +1,5 @@
-"""Computes the result that `import` must give for an ftrace text, in plain Python, from
-docs/IMPORT.md alone.
+"""The reference implementation of `import`: it computes the expected result for an ftrace text
+according to docs/IMPORT.md.
 
 The only state is a table of the tasks in the trace so far. tests/imports and
 tests/release/import_lines compare this result with the program's. Times are in ns.
@@ -24,11 +24,13 @@ HOW = {b"R": "preempt", b"D": "iowait", b"X": "exit", b"Z": "exit"}
 
 
 class Bad(Exception):
-    """Raised for a line that `import` rejects; the text is the cause."""
+    """Raised for a line that `import` must reject. The argument is the cause."""
 
 
 class Switch(NamedTuple):
-    """A processor switched from one task to the next; task 0 is the idle task."""
+    """The event of a processor `cpu` that switched from task `previous` to task `next`. Task 0 is
+    the idle task. `how` is the trace's word for the state in which the previous task left.
+    """
 
     cpu: int
     previous: int
@@ -37,14 +39,14 @@ class Switch(NamedTuple):
 
 
 class Wakeup(NamedTuple):
-    """A task was woken on a processor."""
+    """The event of a task `pid` that was woken on the processor `cpu`."""
 
     pid: int
     cpu: int
 
 
 class Migration(NamedTuple):
-    """A task moved to a processor."""
+    """The event of a task `pid` that moved to the processor `cpu`."""
 
     pid: int
     cpu: int
@@ -55,7 +57,7 @@ Seen = Switch | Wakeup | Migration
 
 @dataclass
 class Task:
-    """A task that has not exited: its state (`asleep`, `ready` or `running`) and its processor."""
+    """A task that hasn't exited: its state (`asleep`, `ready` or `running`) and its processor."""
 
     mode: str
     cpu: int
@@ -69,11 +71,12 @@ class Result(NamedTuple):
     note: str
 
 
-# ---------------------------------------------------------------- one line
+# ---------------------------------------------------------------- parsing a line
 
 
 def after_last(key: bytes, part: bytes) -> bytes:
-    """Returns the part after the last occurrence of the key."""
+    """Returns the part after the last occurrence of the key. Raises Bad if the key doesn't occur.
+    """
     before, found, after = part.rpartition(key)
     if not found:
         raise Bad("BadLine")
@@ -81,7 +84,7 @@ def after_last(key: bytes, part: bytes) -> bytes:
 
 
 def number(key: bytes, part: bytes) -> int:
-    """Returns the number after the last occurrence of the key, up to a space or the end."""
+    """Returns the number between the last occurrence of the key and the next space or the end."""
     digits = after_last(key, part).partition(b" ")[0]
     if not DIGITS.fullmatch(digits) or int(digits) >= 2**32:
         raise Bad("BadLine")
@@ -89,8 +92,8 @@ def number(key: bytes, part: bytes) -> int:
 
 
 def head_of(head: bytes) -> tuple[int, int]:
-    """Returns the time (ns) and the processor in the head of a line. The processor is the last
-    number in brackets.
+    """Parses the head of a line. Returns the time (ns) and the processor, which is the last number
+    in brackets.
     """
     time = TIME.fullmatch(after_last(b" ", head))
     processors = BRACKET.findall(head)
@@ -100,19 +103,23 @@ def head_of(head: bytes) -> tuple[int, int]:
 
 
 def switch_of(cpu: int, tail: bytes) -> Switch:
-    """Parses the tail of a switch line, which the last `==>` divides."""
-    left, arrow, right = tail.rpartition(b" ==> ")
+    """Parses the part of a switch line after the event's name. The last `==>` divides it into the
+    previous and the next task.
+    """
+    previous, arrow, right = tail.rpartition(b" ==> ")
     if not arrow:
         raise Bad("BadLine")
-    state = after_last(b" prev_state=", left)
+    state = after_last(b" prev_state=", previous)
     if not state:
         raise Bad("BadLine")
-    return Switch(cpu, number(b" prev_pid=", left), number(b" next_pid=", right),
+    return Switch(cpu, number(b" prev_pid=", previous), number(b" next_pid=", right),
                   HOW.get(state[:1], "sleep"))
 
 
 def task_and_cpu(tail: bytes, key: bytes) -> tuple[int, int]:
-    """Returns the task in a tail, which mustn't be 0, and the processor that follows the key."""
+    """Parses the part of a wakeup or migration line after the event's name. Returns the task, which
+    mustn't be 0, and the processor, which follows the key.
+    """
     pid = number(b" pid=", tail)
     if pid == 0:
         raise Bad("BadLine")
@@ -120,7 +127,7 @@ def task_and_cpu(tail: bytes, key: bytes) -> tuple[int, int]:
 
 
 def read_line(line: bytes) -> tuple[int, Seen] | None:
-    """Returns the time (ns) and the event of a line; None for a comment line (#) and for a line
+    """Returns the time (ns) and the event of a line, or None for a comment line (#) or a line
     without an event.
     """
     mark = None if line.startswith(b"#") else MARK.search(line)
@@ -135,11 +142,11 @@ def read_line(line: bytes) -> tuple[int, Seen] | None:
     return time, Migration(*task_and_cpu(tail, b" dest_cpu="))
 
 
-# ---------------------------------------------------------------- the trace so far
+# ---------------------------------------------------------------- building the trace
 
 
 class Importer:
-    """Builds the trace from the lines so far."""
+    """Builds the trace line by line."""
 
     def __init__(self, cpus: int) -> None:
         self.cpus = cpus
@@ -150,7 +157,7 @@ class Importer:
         self.lines: list[bytes] = []
 
     def acts_of(self, seen: Seen) -> list[str]:
-        """Returns the events (verb and fields) into which a line is converted."""
+        """Returns the trace events (verb and fields) that an event of the ftrace text causes."""
         if isinstance(seen, Switch):
             return [] if seen.next and self.runs.get(
                 seen.cpu
@@ -165,7 +172,7 @@ class Importer:
         return [f"wake {seen.pid} {seen.cpu}"] if task.mode == "asleep" else []
 
     def arrival(self, seen: Switch) -> list[str]:
-        """Returns the events that make the next task ready on its processor."""
+        """Returns the trace events that make the next task ready on its processor."""
         pid, cpu = seen.next, seen.cpu
         task = self.tasks.get(pid)
         if not pid:
@@ -179,7 +186,7 @@ class Importer:
         return [f"migrate {pid} {cpu}"] if task.cpu != cpu else []
 
     def turn(self, seen: Switch) -> list[str]:
-        """Returns the events that make the next task run."""
+        """Returns the trace events that make the next task run."""
         runner = self.runs.get(seen.cpu)
         if runner is None:
             return [f"switch {seen.cpu} {seen.next} idle"] if seen.next else []
@@ -188,7 +195,7 @@ class Importer:
         ]
 
     def play(self, act: str) -> None:
-        """Applies an event of the trace to the table of tasks."""
+        """Applies a trace event to the table of tasks."""
         verb, *fields = act.split()
         if verb == "switch":
             cpu, pid, how = int(fields[0]), int(fields[1]), fields[2]
@@ -204,28 +211,28 @@ class Importer:
             self.tasks[int(fields[0])] = Task("ready", int(fields[-1]))
 
     def take(self, time: int, seen: Seen) -> None:
-        """Adds the events of a line to the trace, or raises Bad with the first cause to reject the
-        line.
+        """Appends the trace events of a line to the trace. `time` is the line's time (ns). Raises
+        Bad with the first cause if the line must be rejected.
         """
         self.first = time if self.first is None else self.first
-        moment = max(self.moment, time - self.first)
+        time_ns = max(self.moment, time - self.first)
         acts = self.acts_of(seen)
         if seen.cpu >= self.cpus:
             raise Bad("BadCpu")
-        if moment > LATEST:
+        if time_ns > LATEST:
             raise Bad("TooLate")
         if any(act.startswith("fork") for act in acts) and len(self.tasks) >= MOST_TASKS:
             raise Bad("TooManyTasks")
         if len(self.lines) + len(acts) > MOST_EVENTS:
             raise Bad("TooManyEvents")
-        self.moment = moment
+        self.moment = time_ns
         for act in acts:
             self.play(act)
-            self.lines.append(f"{moment} {act}\n".encode())
+            self.lines.append(f"{time_ns} {act}\n".encode())
 
 
 def imported(text: bytes, cpus: int) -> Result:
-    """Returns the result that `import - --cpus N` must give for this text."""
+    """Returns the expected result of `import - --cpus N` for this text."""
     importer = Importer(cpus)
     lines = text.split(b"\n")
     for place, line in enumerate(lines, 1):

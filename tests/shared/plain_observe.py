@@ -1,9 +1,9 @@
-"""Computes what observers of a group may print for a trace: the reference for psi_observe.
+"""The reference implementation of psi_observe: it computes what observers of a group may print.
 
-It follows docs/OBSERVERS.md alone. Two things are computed from the rules: which samples each
-observer must take, and what a sample must contain after N changes of its processor. States are
-derived from the tasks, and signals from docs/PRESSURE.md. Within its interval a sample may have
-seen any number of changes, and samples of different observers in one interval may have any order.
+It follows docs/OBSERVERS.md. It computes the samples that each observer must print, and the content
+of a sample after N changes of its processor. It derives the states from the tasks, and the signals
+from docs/PRESSURE.md. Between two ticks, a sample may show any number of the processor's changes,
+and the samples of different observers may have any order.
 """
 from __future__ import annotations
 
@@ -23,8 +23,8 @@ SAMPLE = re.compile(rb"sample observer=([0-9]+) cpu=[0-9]+ count=([0-9]+) .*")
 
 @dataclasses.dataclass
 class Due:
-    """A sample that each observer must take: its tick, its processor, and the smallest and largest
-    number of changes that it may have seen.
+    """A sample that each observer must print: its tick, its processor, and the smallest and the
+    largest number of changes of the processor that the sample may show.
     """
 
     tick: Tick
@@ -34,8 +34,8 @@ class Due:
 
 
 class Observed:
-    """What observers of a path may print for a trace: the samples that each must take, in order,
-    and the lines that follow the samples.
+    """The allowed output of the observers of the path `path` for a trace: the samples of each
+    observer, in order, and the lines after the samples.
     """
 
     def __init__(self, trace: str, path: str) -> None:
@@ -45,12 +45,12 @@ class Observed:
         self.signals = sum(line.startswith("event ") for line in replay.output())
         self.end = replay.end
         # The text of a sample after the observer's number, by group, processor and number of
-        # changes. It is cached because many samples of a quiet trace are equal.
+        # changes. It is cached because a quiet trace has many equal samples.
         self.texts: dict[tuple[int | None, int, int], str] = {}
 
     def all_due(self) -> Iterator[Due]:
-        """Yields, for each tick at which the path is live, a sample of each processor in ascending
-        order.
+        """Yields the samples that each observer must print. There is one for each tick at which a
+        group has the path, and for each processor in ascending order.
         """
         before = [0] * len(self.clocks.changes)
         for tick in self.clocks.ticks:
@@ -61,7 +61,7 @@ class Observed:
             before = tick.counts
 
     def line(self, due: Due, observer: int, count: int) -> bytes:
-        """Returns the line of an observer's sample after `count` changes of its processor."""
+        """Returns the line of an observer's sample that shows `count` changes of its processor."""
         key = due.tick.group, due.cpu, count
         if key not in self.texts:
             at = self.clocks.changes[due.cpu][count][0]
@@ -70,8 +70,8 @@ class Observed:
         return f"sample observer={observer} {self.texts[key]}".encode()
 
     def last_lines(self, observers: int) -> list[bytes]:
-        """Returns the lines that follow all samples: the last values that each observer read, and
-        the end.
+        """Returns the lines after all samples: a line for each observer with the last values that
+        it has read, and the line `end`.
         """
         board = f"tick={len(self.clocks.ticks)} events={self.signals} kills=0"
         lines = [f"board observer={observer} {board}" for observer in range(observers)]
@@ -82,16 +82,18 @@ class Observed:
 
 
 class Observer:
-    """Matches one observer's samples, in order, with the samples that it must take."""
+    """Compares the samples of an observer, in order, with the expected samples."""
 
     def __init__(self, number: int, observed: Observed) -> None:
         self.number, self.observed = number, observed
         self.left = iter(observed.due)
-        # For each processor, the number of changes that its last sample saw.
+        # The number of changes in the last sample of each processor.
         self.last: dict[int, int] = {}
 
     def take(self, line: bytes, count: int) -> Tick:
-        """Checks the observer's next sample, which saw `count` changes, and returns its tick."""
+        """Checks the next sample line of the observer, which shows `count` changes. Returns the
+        sample's tick.
+        """
         due = next(self.left, None)
         if due is None:
             raise Wrong("a sample that isn't due")
@@ -110,13 +112,13 @@ class Observer:
 
 
 def compare(printed: bytes, observed: Observed, observers: int) -> None:
-    """Raises an exception unless this many observers may print the output. Samples must be in the
-    order of ticks.
+    """Raises unless `observers` observers may print this output. The samples must be in the order
+    of ticks.
     """
     *lines, after = printed.split(b"\n")
     must_be("what stands after the last line", after, b"")
     count = observers * len(observed.due)
-    seen, moment = [Observer(number, observed) for number in range(observers)], 0
+    seen, time_ns = [Observer(number, observed) for number in range(observers)], 0
     for number, line in enumerate(lines[:count], 1):
         found = SAMPLE.fullmatch(line)
         if not found or int(found[1]) >= observers:
@@ -125,14 +127,14 @@ def compare(printed: bytes, observed: Observed, observers: int) -> None:
             tick = seen[int(found[1])].take(line, int(found[2]))
         except Wrong as wrong:
             raise Wrong(f"line {number} is {line!r}: {wrong}") from None
-        must(moment <= tick.moment,
-             f"line {number} is {line!r}: a sample of {tick.moment} after one of {moment}")
-        moment = tick.moment
+        must(time_ns <= tick.moment,
+             f"line {number} is {line!r}: a sample of {tick.moment} after one of {time_ns}")
+        time_ns = tick.moment
     must_be("the lines after the samples", lines[count:], observed.last_lines(observers))
 
 
 def is_too_many(cpus: int, ticks: int, observers: int) -> bool:
-    """Returns whether this many observers are rejected for a trace with this many processors and
-    ticks, for any path.
+    """Returns whether a run with these numbers of processors, ticks and observers is rejected for
+    every path, because it may have too many samples.
     """
     return ticks * observers * cpus > MOST_SAMPLES

@@ -1,7 +1,8 @@
-"""Computes the output of `replay` and `stall` for a trace with the formulas in docs/PRESSURE.md.
+"""Computes the expected output of `replay` and `stall` for a trace with the formulas in
+docs/PRESSURE.md.
 
-tests/shared/machine.py, which follows the rules alone, computes the states of tasks and groups and
-the tasks that interrupts delay.
+The states of tasks and groups, and the tasks that interrupts delay, come from
+tests/shared/machine.py, which follows the rules alone.
 """
 from __future__ import annotations
 
@@ -17,13 +18,13 @@ from shared.machine import Machine
 PAGE = pathlib.Path(__file__).resolve().parents[2] / "docs" / "PRESSURE.md"
 RESOURCES = ("io", "memory", "cpu")
 LEVELS = ("some", "full")
-# Indices into the times of a group on a processor: six pressure states, then the time not idle,
+# Indices of a group's times on a processor: six pressure states, then the time that isn't idle,
 # then the time of interrupts.
 PRESSURES, NONIDLE, INTERRUPTS, TIMES = 6, 6, 7, 8
 
 
 def formulas_of(page: str) -> dict[str, Any]:
-    """Returns the definitions in the page's Python code blocks, by name."""
+    """Executes the Python code blocks of the page. Returns their definitions by name."""
     names: dict[str, Any] = {}
     for block in re.findall(r"^```python\n(.*?)^```$", page, re.DOTALL | re.MULTILINE):
         exec(compile(block, str(PAGE), "exec"), names)
@@ -35,8 +36,8 @@ PRESSURE = formulas_of(PAGE.read_text(encoding="utf-8"))
 
 @dataclasses.dataclass
 class Run:
-    """The arguments of a replay: its name, its trace, the length of a tick and the period of
-    reports (ns), and further arguments.
+    """A replay: its name, its trace, the length of a tick (ns), the period of reports (ns) and
+    further arguments.
     """
 
     name: str
@@ -47,20 +48,20 @@ class Run:
 
 
 class Group:
-    """A group: its times (ns) on each processor, and its pressure by the page's formulas, with one
-    item per index of the times.
+    """A group: its times (ns) on each processor, and its totals and averages by the page's
+    formulas. Each list or dictionary has an item for each index of the times.
     """
 
-    def __init__(self, number: int, path: str, cpus: int, made: int) -> None:
+    def __init__(self, number: int, path: str, cpus: int, created_ns: int) -> None:
         self.number, self.path = number, path
         self.times = [[0] * TIMES for _ in range(cpus)]
         self.sampled = [[0] * TIMES for _ in range(cpus)]
         self.totals = {place: 0 for place in (*range(PRESSURES), INTERRUPTS)}
-        self.averages = {place: PRESSURE["Averages"](made) for place in self.totals}
+        self.averages = {place: PRESSURE["Averages"](created_ns) for place in self.totals}
 
     def sample(self, now: int) -> None:
-        """Adds the growth of the times since the last tick to the totals and averages, at tick
-        `now` (ns).
+        """Updates the totals and averages at the tick `now` (ns) from the growth of the times since
+        the last tick.
         """
         growths = [
             [time - before for time, before in zip(*them)] for them in zip(self.times, self.sampled)
@@ -72,7 +73,9 @@ class Group:
             averages.tick(now, self.totals[place])
 
     def file_line(self, place: int, level: str) -> str:
-        """Returns a line of a pressure file, for the state (or interrupts) with this index."""
+        """Returns the line `level` ("some" or "full") of a pressure file. `place` is the index of
+        the state or of interrupts. The root's line `full` of cpu is always 0.
+        """
         is_zero = self.path == "/" and place == PRESSURES - 1
         averages = [0] * 3 if is_zero else self.averages[place].averages.values()
         texts = [PRESSURE["percent_text"](average) for average in averages]
@@ -93,8 +96,8 @@ class Group:
 
 @dataclasses.dataclass
 class Watch:
-    """A trigger of the trace: the fields of its line, the watched group, the number of the state,
-    and the trigger object of the page's formulas.
+    """A trigger of the trace: the fields of its line, the group, the index of the state, and the
+    trigger object of the page's formulas.
     """
 
     fields: list[str]
@@ -104,7 +107,7 @@ class Watch:
 
 
 class Replay:
-    """Replays a trace with the page's formulas."""
+    """Replays a trace with the formulas of the page."""
 
     def __init__(self, run: Run) -> None:
         header, *lines = run.trace.splitlines()
@@ -117,15 +120,17 @@ class Replay:
         self.now, self.ticks, self.signals = 0, 0, 0
 
     def output(self) -> Iterator[str]:
-        """Yields the lines that `replay` prints, except kills."""
-        for moment, verb, *fields in self.lines:
-            yield from self.go_to(int(moment), False)
+        """Yields the lines that `replay` must print, without kills."""
+        for time_ns, verb, *fields in self.lines:
+            yield from self.go_to(int(time_ns), False)
             self.take(verb, fields)
         yield from self.go_to(self.end, True)
         yield f"end {self.end} ticks={self.ticks} events={self.signals}"
 
     def stall(self) -> Iterator[str]:
-        """Yields the lines that `stall` prints, after `output` has been exhausted."""
+        """Yields the lines that `stall` must print. The caller must first have read all lines of
+        `output`.
+        """
         shown = TIMES if self.version == 2 else INTERRUPTS
         for cpu in range(self.machine.cpus):
             for path in sorted(self.live):
@@ -134,23 +139,23 @@ class Replay:
                     f"{' '.join(map(str, self.live[path].times[cpu][:shown]))}"
                 )
 
-    def go_to(self, moment: int, is_end: bool) -> Iterator[str]:
-        """Advances to this time (ns). A tick at exactly this time comes after the events of that
-        time.
+    def go_to(self, time_ns: int, is_end: bool) -> Iterator[str]:
+        """Advances the time to `time_ns`, and yields the lines of each tick. A tick at exactly
+        `time_ns` comes after all events at that time, so it is included only if `is_end`.
         """
-        while (self.ticks + 1) * self.run.tick < moment + is_end:
+        while (self.ticks + 1) * self.run.tick < time_ns + is_end:
             self.ticks += 1
             self.pass_to(self.ticks * self.run.tick)
             yield from self.tick()
-        self.pass_to(moment)
+        self.pass_to(time_ns)
 
-    def pass_to(self, moment: int) -> None:
-        length = moment - self.now
+    def pass_to(self, time_ns: int) -> None:
+        length = time_ns - self.now
         for group in self.live.values() if length else ():
             for cpu, times in enumerate(group.times):
                 for state, holds in enumerate(self.states.get((cpu, group.number), ())):
                     times[state] += length if holds else 0
-        self.now = moment
+        self.now = time_ns
 
     def take(self, verb: str, fields: list[str]) -> None:
         changed = self.machine.take(verb, *fields)
@@ -214,8 +219,8 @@ def difference(run: Run, words: list[str], wanted: list[str]) -> str:
 
 
 def fault_of(run: Run, program: str) -> str:
-    """Returns the first difference between the output of `replay` or `stall` and the page's
-    formulas, or '' if they are equal.
+    """Compares the program's output of `replay` and `stall` with the page's formulas. Returns the
+    first difference, or '' if there is none.
     """
     replay = Replay(run)
     wanted = list(replay.output())

@@ -1,8 +1,8 @@
-"""Parses rules files and drop-in files in plain Python: the reference for psi_oomd.
+"""The reference parser of rules files and drop-in files, which follows docs/RULES.md.
 
-It follows docs/RULES.md alone. The bytes of a file become rulesets, each argument in the form in
-which it is printed, or the first fault in the file's order. The parts of drop-in files replace
-parts of rulesets, and rulesets become the line that `rules` prints.
+`read` parses a file into rulesets, whose arguments have their printed form. It raises Refused with
+the first fault in the file. `joined` replaces parts of rulesets by the parts in a drop-in file, and
+`text_of` returns the line that `rules` prints.
 """
 from __future__ import annotations
 
@@ -14,7 +14,7 @@ from typing import Any, NamedTuple, Optional
 LONGEST, DEEPEST = 1_048_576, 127
 MOST_RULESETS, MOST_ITEMS, MOST_PATTERNS = 64, 16, 16
 MOST_SECONDS, MOST_BYTES, MOST_WHOLE = 1_000_000, 2**60, 2**64 - 1
-# No limit has more than 20 digits.
+# A decimal number. No number may have more than 20 digits.
 NUMBER = "(0|[1-9][0-9]{0,19})"
 PART = r"(?:\.([0-9]{1,3}))?"
 UNITS = "KMGT"
@@ -22,20 +22,20 @@ Place = tuple[tuple[str, int], ...]
 
 
 class Refused(Exception):
-    """Raised for the first fault of a file, with its place and its cause."""
+    """Raised for the first fault in a file, with its place and its cause."""
 
     def __init__(self, place: Place, cause: str) -> None:
         super().__init__(f"{''.join(f' {word} {number}' for word, number in place)}: {cause}")
 
 
 class Token(NamedTuple):
-    """A JSON number, with its original spelling."""
+    """A number in a JSON file, with its original spelling."""
 
     text: str
 
 
 class Plugin(NamedTuple):
-    """A detector or an action: its name, and the printed text of each argument."""
+    """A detector or an action: its name, and the printed text of each of its arguments."""
 
     name: str
     args: dict[str, str]
@@ -49,26 +49,26 @@ class Group(NamedTuple):
 
 
 class Ruleset(NamedTuple):
-    """A ruleset. In a drop-in file its groups or its actions may be missing."""
+    """A ruleset. In a drop-in file, its groups or its actions may be omitted."""
 
     name: str
     groups: Optional[list[Group]]
     actions: Optional[list[Plugin]]
 
 
-# ---------------------------------------------------------------- arguments
+# ---------------------------------------------------------------- parsing arguments
 
 Form = Callable[[str], Optional[str]]
 
 
 def number(most: int) -> Form:
-    """Returns the parser of a decimal number of at most `most`, without leading zeros."""
+    """Returns a parser of a decimal number without leading zeros that is at most `most`."""
     return lambda text: text if re.fullmatch(NUMBER, text, re.ASCII) and int(text) <= most else None
 
 
 def ratio(text: str) -> Optional[str]:
-    """Parses a number of at most 1000 with up to three decimals; returns it with three, or None if
-    malformed.
+    """Parses a number that is at most 1000, with up to three decimals. Returns it with three
+    decimals, or None if it is malformed.
     """
     found = re.fullmatch(NUMBER + PART, text, re.ASCII)
     return (
@@ -77,8 +77,8 @@ def ratio(text: str) -> Optional[str]:
 
 
 def size(text: str) -> Optional[str]:
-    """Parses a size, in bytes or with a suffix for a power of 1024, or a percentage; returns it as
-    it is printed, in whole bytes, or None if malformed.
+    """Parses a percentage, a size in bytes, or a number with a suffix for a power of 1024. Returns
+    its printed form: the percentage, or whole bytes. Returns None if the text is malformed.
     """
     percent = re.fullmatch(f"{NUMBER}%", text, re.ASCII)
     if percent:
@@ -104,8 +104,8 @@ def resource(text: str) -> Optional[str]:
 
 
 def pattern(text: str) -> Optional[str]:
-    """Parses a cgroup pattern: the root, or components separated by slashes. The leading slash
-    isn't printed.
+    """Parses a cgroup pattern: the root, or components separated by slashes. Returns it without a
+    leading slash, or None if it is malformed.
     """
     parts = text.removeprefix("/").split("/")
     is_good = all(
@@ -145,7 +145,9 @@ ACTIONS: dict[str, Arguments] = {
 
 
 def of_each_action(delay: str) -> Arguments:
-    """Returns the arguments that every action has; `delay` (seconds) is the ruleset's own delay."""
+    """Returns the arguments that every action accepts besides its own. The default of
+    `post_action_delay` is `delay`, the ruleset's own delay (s).
+    """
     truths: Arguments = tuple((name, truth, "false") for name in ("recursive", "always_continue"))
     return (*truths, ("post_action_delay", SECONDS, delay))
 
@@ -158,14 +160,14 @@ def refuse(_: str) -> None:
 
 
 def float_token(text: str) -> Token:
-    """Parses a number as a Token; raises ValueError if it exceeds a 64-bit float."""
+    """Parses a number as a Token. Raises ValueError if it exceeds a 64-bit float."""
     if float(text) in (float("inf"), float("-inf")):
         raise ValueError("no number")
     return Token(text)
 
 
 def texts_in(value: Any) -> Iterator[str]:
-    """Yields all strings of a JSON value, including keys."""
+    """Yields all strings of a JSON value, keys included."""
     if isinstance(value, str):
         yield value
     elif isinstance(value, dict):
@@ -178,15 +180,14 @@ def texts_in(value: Any) -> Iterator[str]:
 
 
 def depth_of(value: Any) -> int:
-    """Returns how deeply lists and objects are nested in a JSON value."""
+    """Returns the nesting depth of lists and objects in a JSON value."""
     if not isinstance(value, (dict, list)):
         return 0
     return 1 + max(map(depth_of, value.values() if isinstance(value, dict) else value), default=0)
 
 
 def json_of(data: bytes) -> Any:
-    """Parses a file's bytes as JSON, with Tokens for numbers. If a key is repeated, its last value
-    counts.
+    """Parses a file as JSON, with Tokens for numbers. If a key is repeated, the last value counts.
     """
     try:
         value = json.loads(data.decode("utf-8"), parse_int=float_token, parse_float=float_token,
@@ -204,7 +205,7 @@ def json_of(data: bytes) -> Any:
 
 
 def member(value: dict[str, Any], key: str, kind: type, place: Place) -> Any:
-    """Returns the value of a required key; raises Refused if it is missing or of another kind."""
+    """Returns the value of a required key. Raises Refused if it is missing or of the wrong type."""
     if key not in value:
         raise Refused(place, "MissingKey")
     return of_kind(value[key], kind, place)
@@ -223,8 +224,8 @@ def short(items: list[Any], most: int, place: Place) -> list[Any]:
 
 
 def argument(value: Any, form: Form, place: Place) -> str:
-    """Returns an argument in its printed form. It may be a string, a whole number or a boolean in
-    the file.
+    """Returns the printed form of an argument. In the file, the argument is a string, a whole
+    number or a boolean.
     """
     if isinstance(value, bool):
         value = "true" if value else "false"
@@ -241,19 +242,19 @@ def argument(value: Any, form: Form, place: Place) -> str:
 
 
 def plugin(value: Any, known: dict[str, Arguments], more: Arguments, place: Place) -> Plugin:
-    """Reads a plugin. Its name must be in `known`; it may have the arguments that `known` lists for
-    it and those in `more`.
+    """Parses a plugin, whose name must be in `known`. It may have the arguments that `known` lists
+    for it and those in `more`.
     """
     value = of_kind(value, dict, place)
     name = member(value, "name", str, place)
     if name not in known:
         raise Refused(place, "UnknownPlugin")
-    given = of_kind(value.get("args", {}), dict, place)
+    arguments = of_kind(value.get("args", {}), dict, place)
     args = {}
     for key, form, default in (*known[name], *more):
-        if key not in given and default is None:
+        if key not in arguments and default is None:
             raise Refused(place, "MissingKey")
-        args[key] = argument(given.get(key, default), form, place)
+        args[key] = argument(arguments.get(key, default), form, place)
     return Plugin(name, args)
 
 
@@ -268,8 +269,8 @@ def group(value: Any, place: Place) -> Group:
 
 
 def ruleset(value: Any, is_part: bool, place: Place) -> Ruleset:
-    """Reads a ruleset: its name, its delay, its groups and its actions, in this order. A part of a
-    drop-in file may lack groups or actions.
+    """Parses a ruleset: its name, its delay, its groups and its actions, in this order. In a
+    drop-in file, groups or actions may be omitted.
     """
     value = of_kind(value, dict, place)
     name = member(value, "name", str, place)
@@ -288,7 +289,7 @@ def ruleset(value: Any, is_part: bool, place: Place) -> Ruleset:
 
 
 def read(data: bytes, is_drop_in: bool = False) -> list[Ruleset]:
-    """Reads the rulesets of a rules file, or the parts of a drop-in file, from the file's bytes."""
+    """Parses a rules file or a drop-in file, and returns its rulesets."""
     if len(data) > LONGEST:
         raise Refused((), "TooLong")
     rulesets = short(member(of_kind(json_of(data), dict, ()), "rulesets", list, ()), MOST_RULESETS,
@@ -300,8 +301,8 @@ def read(data: bytes, is_drop_in: bool = False) -> list[Ruleset]:
 
 
 def joined(base: list[Ruleset], parts: list[Ruleset]) -> list[Ruleset]:
-    """Returns the rulesets after the parts of a drop-in file have been applied. What a part gives
-    replaces that of the first ruleset with the part's name.
+    """Returns the rulesets after the parts of a drop-in file are applied. The groups and actions of
+    a part replace those of the first ruleset with the part's name.
     """
     rulesets = list(base)
     for i, part in enumerate(parts):
@@ -329,13 +330,15 @@ def value_of(it: Ruleset) -> dict[str, Any]:
 
 
 def text_of(rulesets: list[Ruleset]) -> str:
-    """Returns the line that `rules` prints, without its newline."""
+    """Returns the line that `rules` must print, without its newline."""
     value = {"rulesets": [value_of(it) for it in rulesets]}
     return json.dumps(value, ensure_ascii=False, sort_keys=True, separators=(",", ":"))
 
 
 def run(rules: bytes, drop_in: Optional[bytes]) -> tuple[int, str, str]:
-    """Returns the status, the output and the standard error of `rules` for these files."""
+    """Returns the exit status, the output and the standard error that `rules` must have for these
+    files.
+    """
     try:
         base = read(rules)
     except Refused as fault:

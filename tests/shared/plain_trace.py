@@ -1,9 +1,9 @@
-"""Computes which traces are rejected, at which line and for which cause: the reference for
-psi_oomd.
+"""The reference parser of traces: it computes whether a trace must be rejected, at which line and
+for which cause.
 
-It follows docs/TRACES.md alone: a line that isn't spelled as defined there is malformed. A line
-that is spelled correctly is checked against the state after the previous lines. If a line has
-several causes, the first in the order of that page's table is reported.
+It follows docs/TRACES.md. A line that isn't spelled as defined there is malformed. Other lines are
+checked against the state after the previous lines. If a line has several causes, the first in the
+order of that page's table is reported.
 """
 from __future__ import annotations
 
@@ -19,7 +19,7 @@ MOST_EVENTS, MOST_GROUPS, MOST_TASKS, MOST_TRIGGERS, MOST_PRESSURES = (
     4_000_000, 1024, 65_536, 256, 65_536,
 )
 MOST_INTERRUPTS = 10**9
-# The causes to reject a line that is spelled correctly, in their order of precedence.
+# The causes to reject a correctly spelled line, in order of precedence.
 ORDER = (
     "TimeBack", "TimeTooLate", "TooManyEvents", "TooManyGroups", "TooManyTasks", "TooManyTriggers",
     "TooManyPressures",
@@ -29,13 +29,13 @@ ORDER = (
 )  # fmt: skip
 Refusal = tuple[int, str]
 
-# ---------------------------------------------------------------- spelling
+# ---------------------------------------------------------------- spelling of lines
 
 Form = Callable[[str], bool]
 
 
 def number(least: int, most: int) -> Form:
-    """Returns the parser of a decimal number in a range, without leading zeros."""
+    """Returns a parser of a decimal number in a range, without leading zeros."""
     return lambda text: bool(
         re.fullmatch("0|[1-9][0-9]{0,19}", text, re.ASCII)
     ) and least <= int(text) <= most
@@ -46,8 +46,8 @@ def word(*words: str) -> Form:
 
 
 def is_path(text: str) -> bool:
-    """Returns whether a text is a path: the root, or 1 to 32 components, each after a slash, with
-    at most 255 bytes in total.
+    """Returns whether a text is a path: the root, or 1 to 32 components that each follow a slash. A
+    path has at most 255 bytes.
     """
     parts = text[1:].split("/")
     are_names = all(
@@ -82,9 +82,11 @@ LATER_VERBS = ("irq", "pressure")
 
 
 def fault_of_spelling(version: int, line: str) -> Optional[str]:
-    """Returns the first cause to reject the spelling of an event line, or None."""
-    moment, *rest = line.split(" ")
-    if not TIME(moment):
+    """Returns the first cause to reject the spelling of an event line, or None if its spelling is
+    correct.
+    """
+    time_ns, *rest = line.split(" ")
+    if not TIME(time_ns):
         return "BadTime"
     if not rest or rest[0] not in FIELDS or (rest[0] in LATER_VERBS and version < 2):
         return "BadVerb"
@@ -96,42 +98,44 @@ def fault_of_spelling(version: int, line: str) -> Optional[str]:
 
 
 def header_of(line: str) -> Optional[tuple[int, int]]:
-    """Returns the version and the number of processors in a header, or None if it is malformed."""
+    """Parses a header. Returns the version and the number of processors, or None if it is
+    malformed.
+    """
     found = re.fullmatch("psitrace ([12]) cpus=([1-9][0-9]?)", line, re.ASCII)
     return (int(found[1]), int(found[2])) if found and int(found[2]) <= 64 else None
 
 
-# ---------------------------------------------------------------- the state
+# ---------------------------------------------------------------- the state after each line
 
 
 class World:
-    """The state after the lines so far: groups, tasks and processors."""
+    """The state after the previous lines: groups, tasks and processors."""
 
     def __init__(self, cpus: int) -> None:
         self.machine = Machine(cpus)
         self.last = self.events = self.triggers = self.pressures = 0
         self.interrupted: dict[int, int] = {}
 
-    def take(self, moment: int, verb: str, fields: list[str]) -> None:
-        """Applies a valid event at the time `moment` (ns)."""
+    def take(self, time_ns: int, verb: str, fields: list[str]) -> None:
+        """Applies a valid event at `time_ns`."""
         self.machine.take(verb, *fields)
-        self.last, self.events = moment, self.events + 1
+        self.last, self.events = time_ns, self.events + 1
         self.triggers += verb == "trigger"
         self.pressures += verb == "pressure"
         if verb == "irq":
-            self.interrupted[int(fields[0])] = moment
+            self.interrupted[int(fields[0])] = time_ns
 
-    def causes(self, moment: int, verb: str, fields: list[str], most: int) -> Iterator[str]:
-        """Yields all causes to reject the event at the time `moment` (ns), if times may be up to
-        `most` ns.
+    def causes(self, time_ns: int, verb: str, fields: list[str], most: int) -> Iterator[str]:
+        """Yields all causes to reject the event at `time_ns`. `most` is the largest allowed
+        time (ns).
         """
-        limits = (moment < self.last, "TimeBack"), (moment > most, "TimeTooLate"), (
+        limits = (time_ns < self.last, "TimeBack"), (time_ns > most, "TimeTooLate"), (
             self.events >= MOST_EVENTS, "TooManyEvents"
         )
         yield from (cause for stands, cause in limits if stands)
         against = getattr(self, f"against_{verb}", None)
         if verb == "irq":
-            yield from self.against_irq(moment, *fields)
+            yield from self.against_irq(time_ns, *fields)
         elif against:
             yield from (cause for stands, cause in against(*fields) if stands)
 
@@ -139,7 +143,7 @@ class World:
         return int(cpu) < self.machine.cpus
 
     def is_at(self, pid: str, *at: str) -> bool:
-        """Returns whether the task exists and is in one of the states `at`."""
+        """Returns whether the task exists and its state is one of `at`."""
         return pid in self.machine.tasks and self.machine.tasks[pid].at in at
 
     def is_stalled(self, pid: str) -> bool:
@@ -218,23 +222,23 @@ class World:
         yield path not in self.machine.live, "UnknownGroup"
         yield path == "/", "RootPressure"
 
-    def against_irq(self, moment: int, cpu: str, length: str) -> Iterator[str]:
-        """Yields the causes to reject an `irq` line. Interrupts last at most a second, and at most
-        the time since the processor's previous `irq` line.
+    def against_irq(self, time_ns: int, cpu: str, length: str) -> Iterator[str]:
+        """Yields the causes to reject an `irq` line. The length of interrupts is at most a second,
+        and at most the time since the processor's previous `irq` line.
         """
         if not self.is_cpu(cpu):
             yield "BadCpu"
-        if int(length) > min(MOST_INTERRUPTS, moment - self.interrupted.get(int(cpu), 0)):
+        if int(length) > min(MOST_INTERRUPTS, time_ns - self.interrupted.get(int(cpu), 0)):
             yield "IrqTooLong"
 
 
-# ---------------------------------------------------------------- a whole trace
+# ---------------------------------------------------------------- checking a whole trace
 
 
 def lines_of(data: bytes) -> Iterator[tuple[int, bytes, Optional[str]]]:
-    """Yields the lines with their numbers from 1, each with its fault if it is too long or has no
-    newline; such a line is the last. After the last newline there is an empty line without a
-    newline.
+    """Yields the number of each line (from 1), its bytes and its fault or None. A line that is too
+    long or has no newline is faulty, and is the last. After the last newline, an empty line without
+    a newline follows.
     """
     at, count = 0, 1
     while True:
@@ -250,8 +254,8 @@ def lines_of(data: bytes) -> Iterator[tuple[int, bytes, Optional[str]]]:
 
 
 def refusal_of(data: bytes, most: int = MOST_MOMENT) -> Optional[Refusal]:
-    """Returns the first bad line of a trace and its cause, if times may be up to `most` ns; None if
-    the trace is valid.
+    """Returns the first invalid line of a trace and the cause, or None if the trace is valid.
+    `most` is the largest allowed time (ns).
     """
     version, world, is_ended = 0, World(1), False
     for count, line, fault in lines_of(data):
@@ -266,11 +270,11 @@ def refusal_of(data: bytes, most: int = MOST_MOMENT) -> Optional[Refusal]:
             continue
         fault = fault or fault_of_spelling(version, text)
         if not fault:
-            moment, verb, *fields = text.split(" ")
-            fault = min(world.causes(int(moment), verb, fields, most), key=ORDER.index,
+            time_ns, verb, *fields = text.split(" ")
+            fault = min(world.causes(int(time_ns), verb, fields, most), key=ORDER.index,
                         default=None)
         if fault:
             return count, fault
-        world.take(int(moment), verb, fields)
+        world.take(int(time_ns), verb, fields)
         is_ended = verb == "end"
     raise AssertionError("a text has a last line")

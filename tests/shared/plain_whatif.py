@@ -1,7 +1,7 @@
-"""Computes the trace that remains after the kills of its rules: the reference for `psi_oomd
-whatif`.
+"""The reference implementation of `psi_oomd whatif`: it computes the trace that remains after
+kills.
 
-It follows docs/COMMANDS.md alone, event by event over the tasks of tests/shared/machine.py. The
+It follows docs/COMMANDS.md, and applies a trace event by event to tests/shared/machine.py. The
 victims are those that a replay of the trace printed.
 """
 from __future__ import annotations
@@ -13,7 +13,7 @@ from typing import NamedTuple
 from shared.machine import Machine
 
 MOST_ROUNDS = 64
-# Verbs of events whose first field is the number of a task.
+# Verbs of the events whose first field is a task's number.
 OF_A_TASK = ("wake", "stall", "unstall", "migrate", "move")
 
 
@@ -33,17 +33,17 @@ class Kill(NamedTuple):
 
 
 class Trace(NamedTuple):
-    """A trace: its header, and its events including the end."""
+    """A trace: its header, and its events including `end`."""
 
     header: str
     events: list[Event]
 
     def machine(self) -> Machine:
-        """Returns a new Machine with the trace's processors, before any event."""
+        """Returns a new Machine with the trace's processors, in the state before all events."""
         return Machine(int(self.header.partition("cpus=")[2]))
 
     def text(self) -> str:
-        lines = (" ".join((str(moment), verb, *fields)) for moment, verb, fields in self.events)
+        lines = (" ".join((str(time_ns), verb, *fields)) for time_ns, verb, fields in self.events)
         return "\n".join((self.header, *lines, ""))
 
 
@@ -52,45 +52,47 @@ def trace_of(text: str) -> Trace:
     header, *lines = text.splitlines()
     parts = (line.split(" ") for line in lines)
     return Trace(header,
-                 [Event(int(moment), verb, tuple(fields)) for moment, verb, *fields in parts])
+                 [Event(int(time_ns), verb, tuple(fields)) for time_ns, verb, *fields in parts])
 
 
 def kills_of(printed: str) -> list[Kill]:
-    """Returns the kills that a replay printed, in order: by tick, ruleset and action."""
+    """Returns the kills in the output of a replay, in order of ticks, rulesets and actions."""
     found = re.findall(r"^kill ([0-9]+) ruleset=[0-9]+ action=[0-9]+ (\S+)$", printed, re.MULTILINE)
-    return [Kill(int(moment), path) for moment, path in found]
+    return [Kill(int(time_ns), path) for time_ns, path in found]
 
 
-# ---------------------------------------------------------------- a trace without a victim
+# ---------------------------------------------------------------- removing a victim from a trace
 
 
 def members(machine: Machine, path: str) -> list[str]:
-    """Returns the numbers of the tasks in the live group with this path and below it, ascending."""
+    """Returns the numbers, in ascending order, of the tasks in the live group with the path `path`
+    and in its descendants.
+    """
     top = machine.live[path]
     return sorted((pid for pid, task in machine.tasks.items() if machine.is_under(task.group, top)),
                   key=int)
 
 
-def exit_of(machine: Machine, pid: str, moment: int) -> list[Event]:
-    """Returns the events by which a task exits at the time `moment` (ns): the task wakes if it
-    sleeps, is switched to if it doesn't run, ends its memory stall, and exits. A task that ran
-    there is interrupted and continues afterwards.
+def exit_of(machine: Machine, pid: str, time_ns: int) -> list[Event]:
+    """Returns the events by which a task exits at `time_ns`: it wakes if it sleeps, its
+    processor switches to it if it doesn't run, its memory stall ends, and it exits. Then the
+    interrupted task continues.
     """
     task = machine.tasks[pid]
     cpu, others = str(task.cpu), [other for other in machine.running(task.cpu) if other != pid]
     events = []
     if task.at in ("sleep", "iowait"):
-        events.append(Event(moment, "wake", (pid, cpu)))
+        events.append(Event(time_ns, "wake", (pid, cpu)))
     if task.at != "running":
-        events.append(Event(moment, "switch", (cpu, pid, "preempt" if others else "idle")))
+        events.append(Event(time_ns, "switch", (cpu, pid, "preempt" if others else "idle")))
     if task.is_stalled:
-        events.append(Event(moment, "unstall", (pid,)))
-    return [*events, Event(moment, "switch", (cpu, *(others or ["0"]), "exit"))]
+        events.append(Event(time_ns, "unstall", (pid,)))
+    return [*events, Event(time_ns, "switch", (cpu, *(others or ["0"]), "exit"))]
 
 
 def left_of(machine: Machine, dead: set[str], event: Event) -> list[Event]:
-    """Returns the part of an event that remains if the tasks `dead` are dead. `machine` is the
-    state of the recorded trace before the event.
+    """Returns the events that replace `event` if the tasks in `dead` don't exist. `machine` is the
+    state before the event in the recorded trace.
     """
     if event.verb in OF_A_TASK:
         return [] if event.fields[0] in dead else [event]
@@ -104,8 +106,8 @@ def left_of(machine: Machine, dead: set[str], event: Event) -> list[Event]:
 
 
 def rest_of(machine: Machine, dead: set[str], events: list[Event]) -> Iterator[Event]:
-    """Yields the events without those of the dead tasks. When a dead task exits in the recorded
-    trace, its number is no longer counted as dead, since a new task may get it.
+    """Yields the events that remain without the tasks in `dead`. If a task of `dead` exits in the
+    recorded trace, its number is removed from `dead`, since a new task may get this number.
     """
     for event in events:
         yield from left_of(machine, dead, event)
@@ -115,9 +117,9 @@ def rest_of(machine: Machine, dead: set[str], events: list[Event]) -> Iterator[E
 
 
 def without(trace: Trace, kill: Kill) -> Trace:
-    """Returns the trace without the victim's tasks: the trace is unchanged up to the kill, the
-    tasks exit 1 ns later, and the remaining events follow without them. A kill at the end changes
-    nothing.
+    """Returns the trace without the victim's tasks. Up to the time of the kill it is unchanged. The
+    victim's tasks exit 1 ns later, and the remaining events follow without them. A kill at the
+    trace's end changes nothing.
     """
     if kill.moment >= trace.events[-1].moment:
         return trace
@@ -136,11 +138,11 @@ def without(trace: Trace, kill: Kill) -> Trace:
                  [*front, *exits, *rest_of(as_recorded, set(dead), trace.events[len(front) :])])
 
 
-# ---------------------------------------------------------------- kill by kill
+# ---------------------------------------------------------------- applying all kills
 
 
 class Round(NamedTuple):
-    """A trace of the sequence, the output of its replay, and the kill to apply next (None if no
+    """A trace after some kills, the output of its replay, and the next kill to apply (None if no
     kill remains).
     """
 
@@ -150,8 +152,8 @@ class Round(NamedTuple):
 
 
 def rounds(trace: Trace, replay: Callable[[str], str]) -> Iterator[Round]:
-    """Yields the traces up to the final one, whose output `whatif` prints. In the trace after N
-    kills, the kill with index N is applied; at most 64 kills are applied.
+    """Yields the traces up to the final one, whose output `whatif` prints. After N kills, the kill
+    with index N in the output is applied next. At most 64 kills are applied.
     """
     for number in range(MOST_ROUNDS + 1):
         printed = replay(trace.text())

@@ -1,4 +1,4 @@
-"""Parses psi_oomd's output, without code of the tools."""
+"""A parser of psi_oomd's output that uses no code of the tools."""
 from __future__ import annotations
 
 import collections
@@ -9,8 +9,9 @@ AVERAGES = ("avg10", "avg60", "avg300")
 
 
 class Printed:
-    """The parts of an output: shares in percent by group, resource, level and average; events by
-    group, resource and level; kills. Times are in ns.
+    """A parsed output of psi_oomd. `shares` has pairs of time and share (percent), by group,
+    resource, level and average. `events` has times by group, resource and level. `kills` has times
+    and paths. Times are in ns.
     """
 
     def __init__(self, printed: bytes) -> None:

@@ -1,6 +1,6 @@
-"""Finds the program that a test runs: the one named by `--program PATH` or by the variable
-PSI_OOMD, or else the one that the launcher ./psi_oomd builds. The test runs the built program
-itself, not the launcher. Each other program has its own variable.
+"""Finds the program that a test runs. `--program PATH` or the variable PSI_OOMD names it. If
+neither is set, the launcher ./psi_oomd builds the program. The test runs the built program itself,
+not the launcher. Each other program has a variable of its own.
 """
 from __future__ import annotations
 
@@ -10,8 +10,8 @@ import subprocess
 import sys
 from typing import NoReturn
 
-# Whether the caller named psi_oomd. If so, a test fails if it needs another program that isn't
-# named.
+# Whether the caller named psi_oomd. If so, the test doesn't build other programs, and fails if it
+# needs a program that isn't named.
 IS_NAMED = bool(os.environ.get("PSI_OOMD")) or "--program" in sys.argv[1:2]
 TOP = os.path.dirname(os.path.dirname(os.path.dirname(os.path.abspath(__file__))))
 sys.path.append(os.path.join(TOP, "tools"))
@@ -19,8 +19,8 @@ sys.path.append(os.path.join(TOP, "tools"))
 from psicli.fault import Fault  # noqa: E402
 from psireplay.program import built_program  # noqa: E402
 
-# Arguments, and the output that each program must print for them. A test checks them, so that it
-# detects a wrong program.
+# Arguments and expected output of each program. The output shows that a named program is the right
+# one.
 TRACE = os.path.join(TOP, "examples", "one-wait.trace")
 PAGES = [
     os.path.join(TOP, "crates", "psi_convert_main", "data", name) for name in ("table", "cpu0.raw")
@@ -32,18 +32,20 @@ PRINTED = {
 }
 
 
-# The paths of the programs that this test uses, by the variables that name programs.
+# The paths of the programs that this test uses, by the environment variables that name them.
 USED: dict[str, str] = {}
 
 
 def fail(message: str) -> NoReturn:
-    """Prints the message and ends a test that can't run, with status 2."""
+    """Prints the message, and ends a test that can't run with status 2."""
     print(message, file=sys.stderr)
     sys.exit(2)
 
 
 def must_be_program(path: str, name: str) -> None:
-    """Ends the test unless `path` is the program `name`, by its output for a small input."""
+    """Ends the test unless `path` is the program `name`, which is recognized by its output for a
+    small input.
+    """
     words, expected = PRINTED[name]
     done = subprocess.run([path, *words], capture_output=True, check=False)
     if not done.stdout.endswith(expected):
@@ -53,8 +55,8 @@ def must_be_program(path: str, name: str) -> None:
 
 
 def program_of(words: list[str], name: str = "psi_oomd") -> tuple[str, list[str]]:
-    """Returns the path of the program `name`, which is built if none is named, and the arguments
-    after `--program PATH`. Tools that the test runs use the same program. `--help` prints the
+    """Returns the path of the program `name`, and the arguments after `--program PATH`. Builds the
+    program if no path is named. Tools that the test runs use the same program. `--help` prints the
     test's own docstring, and builds nothing.
     """
     if words[:1] == ["--help"]:

@@ -1,5 +1,5 @@
-"""Runs tools and psi_oomd for checks, each check in a folder of its own (a Room), and has the
-results of these runs.
+"""Runs tools and psi_oomd for checks, and compares the results. Each check has a folder of its own,
+called a Room.
 """
 from __future__ import annotations
 
@@ -37,15 +37,15 @@ class Done:
         return json.loads(read.stdout)
 
     def without_notes(self) -> "Done":
-        """Returns the result without lint's notes. tests/oomd checks the notes on differences from
-        oomd.
+        """Returns the result without the notes of lint about differences from oomd, which
+        tests/oomd checks.
         """
-        kept = [it for it in self.output.splitlines(True) if ": note: " not in it]
-        return Done(self.status, "".join(kept), self.error)
+        lines = [it for it in self.output.splitlines(True) if ": note: " not in it]
+        return Done(self.status, "".join(lines), self.error)
 
     def must_print(self, what: str, status: int, output: str) -> None:
-        """Compares the status and the output with the expected ones. A failure also shows standard
-        error.
+        """Fails unless the exit status and the output are the expected ones. A failure also shows
+        the standard error.
         """
         said = f", with this on standard error:\n{self.error}" if self.error else ""
         must_be(f"{what}: the status{said}", self.status, status)
@@ -53,7 +53,7 @@ class Done:
 
 
 class Room:
-    """A check's temporary folder, and the program that the tools use there."""
+    """The temporary folder of a check, and the program that tools use there."""
 
     def __init__(self, program: str, path: str) -> None:
         self.program, self.path = program, path
@@ -67,37 +67,39 @@ class Room:
         return name
 
     def run(
-        self, *words: str, given: str | bytes = b"", program: str | None = None, **more: str
+        self, *words: str, stdin: str | bytes = b"", program: str | None = None, **more: str
     ) -> Done:
         """Runs a tool of the repository, or psi_oomd if that is the first word, and returns the
-        result. `given` is its standard input, and `more` are additional environment variables.
+        result. `stdin` is the standard input, and `more` are additional environment variables.
         """
         first = self.program if words[0] == "psi_oomd" else os.path.join(TOP, words[0])
         environment: dict[str, str] = {**os.environ, "PSI_OOMD": program or self.program, **more}
-        data = given if isinstance(given, bytes) else given.encode()
+        data = stdin if isinstance(stdin, bytes) else stdin.encode()
         command = [first, *words[1:]]
         done = subprocess.run(
             command, cwd=self.path, input=data, capture_output=True, env=environment, check=False
         )
         return Done(done.returncode, done.stdout.decode(), done.stderr.decode())
 
-    def kills(self, *words: str, given: str = "") -> list[tuple[int, int, int, str]]:
-        """Returns the kills that psi_oomd itself prints for this replay: time (ns), index of the
-        ruleset, index of the action, and path.
+    def kills(self, *words: str, stdin: str = "") -> list[tuple[int, int, int, str]]:
+        """Returns the kills that psi_oomd prints for this replay: time (ns), index of the ruleset,
+        index of the action, and path.
         """
-        done = self.run("psi_oomd", "replay", *words, given=given)
+        done = self.run("psi_oomd", "replay", *words, stdin=stdin)
         must_be(f"the status of replay {words}, which said {done.error}", done.status, 0)
         found = re.findall(
             r"^kill ([0-9]+) ruleset=([0-9]+) action=([0-9]+) (\S+)$", done.output, re.MULTILINE
         )
         return [
-            (int(moment), int(ruleset), int(action), path)
-            for moment, ruleset, action, path in found
+            (int(time_ns), int(ruleset), int(action), path)
+            for time_ns, ruleset, action, path in found
         ]
 
 
 def run_in_rooms(*sources: Source) -> int:
-    """Runs all checks of the sources, or only the named ones; each check gets a Room of its own."""
+    """Runs all checks in these modules or dictionaries, or only the named ones. Each check gets a
+    Room of its own.
+    """
     program, words = program_of(sys.argv[1:])
     return run_checks(
         checks_of(*sources), lambda check, folder: check(Room(program, folder)), words

@@ -1,7 +1,5 @@
-"""Helpers for tests of the recording tools: running them, checking their results, and reading the
-stored recordings.
-
-The recordings are in tests/data, whose README says where they come from.
+"""Helpers for tests of the recording tools. They run the tools, check the results, and read the
+stored recordings. The recordings are in tests/data, whose README describes their origin.
 """
 from __future__ import annotations
 
@@ -22,7 +20,7 @@ TOP = os.path.dirname(os.path.dirname(os.path.dirname(os.path.abspath(__file__))
 TOOLS = os.path.join(TOP, "tools")
 STORED = os.path.join(TOP, "tests", "data")
 SECONDS = 600
-# The size (bytes) of a page of the recordings' ring buffers.
+# The size (bytes) of a page in the ring buffers of the recordings.
 PAGE = 4096
 
 
@@ -34,21 +32,21 @@ class Done(NamedTuple):
     said: str
 
 
-def run(words: list[str], given: bytes = b"", program: str = "") -> Done:
+def run(words: list[str], stdin: bytes = b"", program: str = "") -> Done:
     """Runs a command and returns its result. `program` is the psi_oomd that a tool uses."""
     environment = {**os.environ, "PYTHONDONTWRITEBYTECODE": "1", "PSI_OOMD": program}
-    done = subprocess.run(words, input=given, capture_output=True, timeout=SECONDS, env=environment,
+    done = subprocess.run(words, input=stdin, capture_output=True, timeout=SECONDS, env=environment,
                           cwd=TOP)
     return Done(done.returncode, done.stdout, done.stderr.decode())
 
 
-def tool(name: str, *words: str, given: bytes = b"", program: str = "") -> Done:
+def tool(name: str, *words: str, stdin: bytes = b"", program: str = "") -> Done:
     """Runs the tool `name` of the repository and returns the result."""
-    return run([os.path.join(TOOLS, name), *words], given, program)
+    return run([os.path.join(TOOLS, name), *words], stdin, program)
 
 
 def accepted(program: str, trace: bytes) -> str:
-    """Returns the output of psi_oomd's `check` for a trace, which must be accepted."""
+    """Returns the output of psi_oomd's `check` for a trace. `check` must accept the trace."""
     done = run([program, "check", "-"], trace)
     must_be(f"the status of check, which said {done.said}", done.status, 0)
     return done.output.decode()
@@ -56,7 +54,7 @@ def accepted(program: str, trace: bytes) -> str:
 
 @contextlib.contextmanager
 def recording(name: str) -> Iterator[str]:
-    """Yields a temporary copy of a stored recording, as a folder that may be changed."""
+    """Yields a temporary folder with a copy of a stored recording. The copy may be changed."""
     with tempfile.TemporaryDirectory() as place:
         with tarfile.open(os.path.join(STORED, f"{name}.tar.xz")) as archive:
             archive.extractall(place)
@@ -76,7 +74,7 @@ def stored(name: str) -> str:
 
 
 def change(folder: str, name: str, edit: Callable[[bytes], bytes]) -> None:
-    """Rewrites a file of a recording with the bytes that `edit` returns for it."""
+    """Replaces a file of a recording by the bytes that `edit` returns for its content."""
     path = os.path.join(folder, name)
     with open(path, "rb") as file:
         before = file.read()
@@ -87,7 +85,7 @@ def change(folder: str, name: str, edit: Callable[[bytes], bytes]) -> None:
 
 
 def count_bytes(folder: str) -> None:
-    """Sets the byte count in `meta` to the total size of the files that hold pages."""
+    """Sets the byte count in `meta` to the total size of the page files."""
     names = [os.path.join(folder, name) for name in os.listdir(folder) if ".raw" in name]
     count = sum(os.path.getsize(name) for name in names)
     change(folder, "meta", lambda it: re.sub(rb"(?m)^bytes \d+$", b"bytes %d" % count, it))
@@ -112,7 +110,7 @@ def digests() -> dict[str, str]:
 
 
 def converted(folder: str, *words: str, status: int = 0) -> Done:
-    """Runs psitrace on a recording, which must exit with this status, and returns the result."""
+    """Runs psitrace on a recording and returns the result. The exit status must be `status`."""
     done = tool("psitrace", folder, *words)
     must_be(f"the status of psitrace {' '.join(words)}, which said {done.said}", done.status,
             status)
@@ -120,7 +118,7 @@ def converted(folder: str, *words: str, status: int = 0) -> Done:
 
 
 def compared(program: str, folder: str, trace: bytes, *words: str) -> Done:
-    """Runs `compare` on a recording and its trace, and returns the result."""
+    """Runs `compare` on a recording and a trace, and returns the result."""
     with tempfile.NamedTemporaryFile(suffix=".trace") as file:
         file.write(trace)
         file.flush()
@@ -128,7 +126,7 @@ def compared(program: str, folder: str, trace: bytes, *words: str) -> Done:
 
 
 def must_agree(program: str, folder: str, trace: bytes, *words: str) -> None:
-    """Fails unless the trace agrees with the machine's pressure files."""
+    """Fails unless the trace agrees with the recording's pressure files."""
     done = compared(program, folder, trace, *words)
     printed = f"compare prints\n{done.output.decode()}{done.said}"
     must(done.status == 0, f"expected status 0 of compare, actual {done.status}; {printed}")
@@ -136,5 +134,5 @@ def must_agree(program: str, folder: str, trace: bytes, *words: str) -> None:
 
 
 def hide(folder: str, event: bytes) -> None:
-    """Renames an event in the recording, so that psitrace doesn't know it."""
+    """Renames an event in the recording, so that psitrace doesn't recognize it."""
     change(folder, "formats", lambda it: it.replace(b"/" + event + b"\n", b"/not_" + event + b"\n"))

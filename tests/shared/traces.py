@@ -19,7 +19,7 @@ TOP = os.path.dirname(os.path.dirname(os.path.dirname(os.path.abspath(__file__))
 MS = 10**6
 RANDOM_TRACES = 40
 RANDOM_TRACES_WITH_INTERRUPTS = 10
-# An event without its time: a verb and its fields.
+# An event without its time: its verb and its fields.
 Event = tuple[str, ...]
 Thing = TypeVar("Thing")
 
@@ -28,8 +28,8 @@ RUNAWAY = ("--rules", "examples/runaway.json")
 
 @dataclasses.dataclass(frozen=True)
 class Run:
-    """A trace with a path, and the options of its replay: the length of ticks (ms), the period of
-    reports (s) and further arguments.
+    """A trace with an observed path, and the options of its replay: the length of ticks (ms), the
+    period of reports (s) and further arguments.
     """
 
     name: str
@@ -47,8 +47,8 @@ def text_of(name: str) -> str:
 
 
 def fixed_runs() -> list[Run]:
-    """Returns the traces of fixed_traces.py and some of the examples, each with the path of a group
-    that is live at the end, was live, or never was.
+    """Returns the traces of fixed_traces.py and some of the examples. Each has the path of a group
+    that exists at the end, that existed earlier, or that never existed.
     """
     return [
         Run("one-wait", text_of("one-wait.trace"), "/", 2000, 10),
@@ -88,14 +88,14 @@ def fixed_runs() -> list[Run]:
 
 
 class Maker:
-    """Makes a valid random trace. In each turn an event happens that is possible then, and time may
+    """Makes a valid random trace. In each turn, a random possible event happens, and time may
     advance.
     """
 
     PATHS: tuple[str, ...] = ("/a", "/a/b", "/a/b/c", "/d", "/d/e")
-    # The smallest and the largest number of turns.
+    # The smallest and the largest number of turns in a trace.
     TURNS = (30, 120)
-    # The weight of each verb in the random choice, by the version of the trace.
+    # The weight of each verb in the random choice, by the trace's version.
     FIRST = dict(fork=2, switch=8, wake=4, stall=2, unstall=2, migrate=2, move=3, group=4,
                  rmgroup=2, side=1)
     OFTEN = {1: FIRST, 2: {**FIRST, "irq": 8, "pressure": 5}}
@@ -118,8 +118,8 @@ class Maker:
         return "\n".join([*self.lines, f"{self.now} end\n"])
 
     def pass_time(self) -> None:
-        """Advances the time by a random length. Half of the turns take no time, some end exactly at
-        a tick, and some contain ticks without events.
+        """Advances the time by a random length. Half of the turns take no time, some turns end
+        exactly at a tick, and some contain ticks without events.
         """
         way = self.draw.random()
         if way > 0.95:
@@ -130,7 +130,7 @@ class Maker:
             self.now += self.draw.randrange(self.tick // 2)
 
     def path(self) -> str:
-        """Returns the root, or a path that a group has or had."""
+        """Returns the root, or a path that a group has or once had."""
         return self.draw.choice(
             [
                 "/",
@@ -146,12 +146,12 @@ class Maker:
         return str(self.draw.randrange(self.machine.cpus))
 
     def some(self, them: Iterable[Thing]) -> list[Thing]:
-        """Returns a list with one random item, or an empty list if there is no item."""
+        """Returns a list with a random item, or an empty list if there are no items."""
         listed = list(them)
         return [self.draw.choice(listed)] if listed else []
 
     def task(self, *at: str) -> list[str]:
-        """Returns the number of a random task in one of the states `at`, in a list; an empty list
+        """Returns a list with the number of a random task whose state is in `at`, or an empty list
         if there is no such task.
         """
         return self.some(pid for pid, task in self.machine.tasks.items() if task.at in at)
@@ -204,8 +204,8 @@ class Maker:
         ]
 
     def some_rmgroup(self) -> list[Event]:
-        """Removes a random group without children after moving its tasks to the parent; sometimes
-        creates the group again at once. Returns the events.
+        """Removes a random group without children, after it moves the group's tasks to the parent.
+        Sometimes creates the group again at once. Returns the events.
         """
         live = self.machine.live
         parents = {parent_of(path) for path in live if path != "/"}
@@ -216,8 +216,8 @@ class Maker:
         return []
 
     def some_irq(self) -> list[Event]:
-        """Returns an `irq` event: interrupts take none, some or all of the time since the
-        processor's previous `irq` line, but at most a second.
+        """Returns an `irq` event. The length of the interrupts is none, some or all of the time
+        since the processor's previous `irq` line, but at most a second.
         """
         busy = [cpu for cpu in range(self.machine.cpus) if self.machine.running(cpu)]
         cpu = self.draw.choice(
@@ -228,8 +228,8 @@ class Maker:
         return [("irq", str(cpu), str(self.draw.choice((0, most, self.draw.randint(0, most)))))]
 
     def some_pressure(self) -> list[Event]:
-        """Switches the account of a random group on or off, perhaps to its present state, and
-        sometimes back at once. Returns the events.
+        """Switches the pressure accounting of a random group on or off, and sometimes back at once.
+        The group may already be in this state. Returns the events.
         """
         switches = self.draw.choice((("on",), ("off",), ("off",), ("off", "on"), ("on", "off")))
         return [
@@ -239,7 +239,7 @@ class Maker:
         ]
 
     def some_side(self) -> list[Event]:
-        """Returns an event that changes neither a processor nor a group."""
+        """Returns a list with an event that changes no processor and no group."""
         (path,) = self.some(self.machine.live)
         resource, level = (
             self.draw.choice(("io", "memory", "cpu")), self.draw.choice(("some", "full")),
@@ -251,20 +251,20 @@ class Maker:
 
 
 def random_run(number: int, version: int = 1, kind: type[Maker] = Maker) -> Run:
-    """Returns a random trace of this version, made by a Maker of this kind. The same number gives
-    the same trace.
+    """Returns a random trace of this version, made by a Maker of this class. The number determines
+    the trace.
     """
     maker = kind(number, version)
     trace = maker.trace()
-    # The replay mostly has the tick length for which the trace was made; else half of it or 3.5
-    # times.
+    # The replay mostly has the tick length for which the trace was made, but sometimes half of it
+    # or 3.5 times as much.
     tick_ms = maker.tick // MS * maker.draw.choice((2, 2, 2, 1, 7)) // 2
     return Run(f"random-{number}" + "-with-interrupts" * (version - 1), trace, maker.path(),
                tick_ms, maker.draw.choice((0, 1, 10)))
 
 
 def all_runs() -> Iterator[Run]:
-    """Yields the fixed traces, and random traces of both versions."""
+    """Yields all fixed traces, and random traces of both versions."""
     yield from fixed_runs()
     yield from (random_run(number) for number in range(RANDOM_TRACES))
     yield from (random_run(number, 2) for number in range(RANDOM_TRACES_WITH_INTERRUPTS))

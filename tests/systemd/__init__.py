@@ -1,1 +1,1 @@
-"""Checks of tools/systemd-oomd, which emulates systemd-oomd on a trace."""
+"""Checks of tools/systemd-oomd, which emulates the daemon systemd-oomd on a trace."""

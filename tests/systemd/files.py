@@ -1,4 +1,4 @@
-"""Checks how settings in files are read and merged, as systemd does."""
+"""Checks that settings in files are parsed and merged as systemd does it."""
 from __future__ import annotations
 
 import os
@@ -8,12 +8,12 @@ from shared.rooms import Done, Room
 from psicli.fault import Fault
 from psisystemd.settings import Settings
 from systemd.slices import (
-    OOMD, SLICE, A, B, UNITS, WATCHED, Leaf, Trace, put, told, decided, decisions, stalled,
+    OOMD, SLICE, A, B, UNITS, WATCHED, Leaf, Trace, put, run_emulation, decided, decisions, stalled,
 )
 
 
 def files_by_folder() -> dict[str, tuple[dict[str, str], int]]:
-    """Returns settings files of s.slice by case, with the time (s) of the resulting kill."""
+    """Returns cases of settings files for s.slice, each with the time (s) of the resulting kill."""
     low, high = (f"[Slice]\nManagedOOMMemoryPressureLimit={it}%\n" for it in (40, 60))
     kill = WATCHED[f"{UNITS}/s.slice"]
     lib, run = "usr/lib/systemd/system", "run/systemd/system"
@@ -54,17 +54,17 @@ def files_by_folder() -> dict[str, tuple[dict[str, str], int]]:
 
 
 def check_which_file_counts(room: Room) -> None:
-    """In each case the settings that systemd would use decide: a limit of 40 percent for s.slice
-    kills at 36 s, the default of 60 percent at 40 s.
+    """The kill is at the time that follows from the settings which systemd would use: 36 s with a
+    limit of 40 percent for s.slice, and 40 s with the default of 60 percent.
     """
-    for number, (what, (files, moment)) in enumerate(files_by_folder().items()):
+    for number, (what, (files, time_s)) in enumerate(files_by_folder().items()):
         put(room, files, f"case{number}")
-        must_be(what, decided(room, stalled(), f"case{number}")[0], [(moment, B)])
+        must_be(what, decided(room, stalled(), f"case{number}")[0], [(time_s, B)])
 
 
 def check_which_unit_a_group_is(room: Room) -> None:
-    """The settings of a group come from its unit, its template, names cut at dashes, and, for a
-    user's units, from the user's folders.
+    """The settings of a group come from files of its unit, of its template, and of prefixes of the
+    unit's name that end with a dash. For a user's units, they come from the folders of the user.
     """
     kill = "[{}]\nManagedOOMMemoryPressure=kill\n"
     manager = "/user.slice/user-1000.slice/user@1000.service"
@@ -89,8 +89,8 @@ def check_which_unit_a_group_is(room: Room) -> None:
 
 
 def check_oomd_conf(room: Room) -> None:
-    """The drop-in files of oomd.conf are read after it, sorted by name, and /etc has priority over
-    /run, and /run over /usr. From systemd 256 on, oomd.conf itself may be in /usr too.
+    """The drop-in files of oomd.conf are read after it, sorted by name. /etc has priority over
+    /run, and /run over /usr. Since systemd 256, oomd.conf itself may be in /usr.
     """
     head = "[OOM]\nDefaultMemoryPressureLimit="
     cases = {
@@ -119,28 +119,28 @@ def check_oomd_conf(room: Room) -> None:
         "permille": ({"etc/systemd/oomd.conf": head + "400‰"}, 36),
         "decimals": ({"etc/systemd/oomd.conf": head + "39.99%"}, 36),
     }
-    for number, (what, (files, moment)) in enumerate(cases.items()):
+    for number, (what, (files, time_s)) in enumerate(cases.items()):
         put(room, {**WATCHED, **files}, f"case{number}")
-        for version, wanted in ((257, moment), (252, 40 if what == "below /usr" else moment)):
+        for version, wanted in ((257, time_s), (252, 40 if what == "below /usr" else time_s)):
             must_be(f"{what}, {version}", decided(room, stalled(), f"case{number}", version)[0],
                     [(wanted, B)])
 
 
 def check_what_systemd_said(room: Room) -> None:
-    """The output of `systemctl show` has priority over files. A limit in it is a fraction of
-    4294967295.
+    """The output of `systemctl show` has priority over files. In this output, a limit is a fraction
+    of 4294967295.
     """
     shown = (
         f"Id=s.slice\nControlGroup={SLICE}\nManagedOOMSwap=auto\nManagedOOMMemoryPressure=kill\n"
     )
     half = shown + "ManagedOOMMemoryPressureLimit=2147483648\n"
     own = half + "ManagedOOMMemoryPressureDurationUSec="
-    for text, moment in ((shown, 40), (half, 38), (own + "20s\n", 28), (own + "[not set]\n", 38)):
+    for text, time_s in ((shown, 40), (half, 38), (own + "20s\n", 28), (own + "[not set]\n", 38)):
         files = {
             "units": f"Id=-.slice\nControlGroup=/\n\n{text}", "version": "systemd 257 (257.1)\n"
         }
         files[f"{UNITS}/s.slice"] = "[Slice]\nManagedOOMMemoryPressure=auto\n"
-        must_be(f"by {text}", decisions(room, stalled(42), files), [(moment, B)])
+        must_be(f"by {text}", decisions(room, stalled(42), files), [(time_s, B)])
     put(
         room,
         {
@@ -152,7 +152,7 @@ def check_what_systemd_said(room: Room) -> None:
 
 
 def bad_settings() -> tuple[tuple[str, str, str], ...]:
-    """Returns each bad setting: its file, its text, and the expected message."""
+    """Returns invalid settings by name: the file, its text, and the expected message."""
     unit, conf = f"{UNITS}/s.slice", "etc/systemd/oomd.conf"
     share = "it has to be a percentage such as 60%, from 0% to 100%, with at most two decimals"
     length = "it has to be a time of at least 1 s, such as 20s or 1min 30s"
@@ -192,7 +192,7 @@ def bad_settings() -> tuple[tuple[str, str, str], ...]:
 
 
 def check_bad_settings(room: Room) -> None:
-    """Each bad setting is reported with its file and line, and nothing else is printed."""
+    """For each invalid setting, the message has the file and the line, and the output is empty."""
     for number, (name, text, wanted) in enumerate(bad_settings()):
         put(room, {name: text}, f"case{number}")
         must_be(f"{name}: {text!r}", fault_of(room, f"case{number}"),
@@ -204,7 +204,7 @@ def check_bad_settings(room: Room) -> None:
 
 
 def fault_of(room: Room, folder: str) -> str:
-    """Returns the error message for a faulty folder of settings."""
+    """Runs the emulation on a folder of invalid settings, and returns the error message."""
     try:
         settings = Settings(os.path.join(room.path, folder))
         settings.watched(SLICE)
@@ -226,7 +226,7 @@ def check_a_trace_without_samples(room: Room) -> None:
 
 
 def check_an_empty_preference(room: Room) -> None:
-    """systemd ignores an empty preference: the previous setting is kept."""
+    """systemd ignores an empty preference, so the previous setting remains valid."""
     note = (
         f"settings/{UNITS}/b.service.d/y.conf line 2: ManagedOOMPreference is empty: systemd "
         "ignores that, and keeps what was set before"
@@ -243,11 +243,11 @@ def check_an_empty_preference(room: Room) -> None:
 
 
 def check_misspelt_settings(room: Room) -> None:
-    """A setting that systemd ignores is reported and ignored."""
+    """A setting that systemd ignores is reported, and has no effect."""
     put(room,
         {**WATCHED, "etc/systemd/oomd.conf": "[OOM]\nSwapUsedLimt=1%\n[Oom]\nSwapUsedLimit=1%\n"})
     put(room, {f"{UNITS}/s.slice.d/a.conf": "[Slice]\nManagedOOMMemoryPresure=auto\n"})
-    done = told(room, stalled())
+    done = run_emulation(room, stalled())
     files = "systemd-oomd: settings/etc/systemd"
     must_be("what is told", done.error, (
         f"{files}/oomd.conf line 2: there is no setting SwapUsedLimt in oomd.conf, so it is passed "

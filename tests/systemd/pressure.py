@@ -1,4 +1,4 @@
-"""Checks the rule of systemd-oomd for memory pressure."""
+"""Checks the rule of systemd-oomd about memory pressure."""
 from __future__ import annotations
 
 from harness import must, must_be
@@ -9,8 +9,8 @@ from systemd.slices import (
 
 
 def check_defaults(room: Room) -> None:
-    """By default a kill follows 30 s above 60 percent. The victim is the group that reclaims most,
-    whichever group waits.
+    """By default, systemd-oomd kills after 30 s above 60 percent. The victim is the group that
+    reclaims most, even if another group waits.
     """
     must_be("the kill", decisions(room, stalled(), WATCHED), [(40, B)])
     note = (
@@ -21,7 +21,7 @@ def check_defaults(room: Room) -> None:
 
 
 def check_limits(room: Room) -> None:
-    """The limits come from oomd.conf, and a unit may have its own."""
+    """The limits come from oomd.conf, and a unit's own settings have priority."""
     conf = {
         "etc/systemd/oomd.conf": (
             "[OOM]\nDefaultMemoryPressureLimit=40%\nDefaultMemoryPressureDurationSec=10s\n"
@@ -56,16 +56,16 @@ def check_memory_decides_after_scans(room: Room) -> None:
 
 
 def check_a_duration_without_break(room: Room) -> None:
-    """The duration is counted without interruption: the group waits until 30 s, its avg10 falls
+    """Only uninterrupted time above the limit counts. The group waits until 30 s, its avg10 falls
     below 60 percent soon after, and it waits again from 40 s on.
     """
     trace = stalled(90, a=Leaf(3000, 0, 10, ((0, 30), (40, 90))))
-    (moment, victim), = decisions(room, trace, WATCHED)
-    must(75 < moment < 80 and victim == B, f"30 s after the second time above: {moment}, {victim}")
+    (time_s, victim), = decisions(room, trace, WATCHED)
+    must(75 < time_s < 80 and victim == B, f"30 s after the second time above: {time_s}, {victim}")
 
 
 def check_reclaim(room: Room) -> None:
-    """If no memory was reclaimed for 30 s, nothing is killed."""
+    """If no memory was reclaimed for 30 s, systemd-oomd kills nothing."""
     quiet = stalled(90, a=Leaf(3000, 0, 0, ((0, 90),)), b=Leaf(), c=Leaf())
     must_be("nothing was scanned", decisions(room, quiet, WATCHED), [(40, None)])
     quiet.extra = [(20, f"mem {C} 1000 0 7"), *((at, f"mem {C} 1000 0 7") for at in range(21, 90))]
@@ -75,7 +75,7 @@ def check_reclaim(room: Room) -> None:
 
 
 def check_the_pause(room: Room) -> None:
-    """For 15 s after a kill for memory pressure nothing is killed, whichever group waits."""
+    """After a kill for memory pressure, systemd-oomd kills nothing for 15 s, in all groups."""
     leaves = {A: Leaf(1000, 0, 10, ((0, 80),)), "/t.slice/d.service": Leaf(1000, 0, 10, ((2, 80),))}
     watched = {f"{UNITS}/{it}.slice": WATCHED[f"{UNITS}/s.slice"] for it in "st"}
     found = decisions(room, Trace(69, leaves), watched)
@@ -84,7 +84,9 @@ def check_the_pause(room: Room) -> None:
 
 
 def check_wishes(room: Room) -> None:
-    """A group with the preference `avoid` is killed last, and a group with `omit` never."""
+    """A group with the preference `avoid` is killed only if no other candidate exists. A group with
+    `omit` is never killed.
+    """
     wish = "[Service]\nManagedOOMPreference={}\n"
     avoid = {f"{UNITS}/b.service.d/x.conf": wish.format("avoid")}
     must_be("b is avoided", decisions(room, stalled(), {**WATCHED, **avoid}), [(40, A)])
@@ -102,9 +104,7 @@ def check_wishes(room: Room) -> None:
 
 
 def check_whose_wishes_count(room: Room) -> None:
-    """A group's preference counts if the group is owned by root, or by the owner of the watched
-    group.
-    """
+    """A group's preference counts only if root or the owner of the watched group owns the group."""
     for watched, of_group, victim in (
         (0, 1000, B), (1000, 1000, A), (0, 0, A), (1000, 0, A), (1000, 1001, B)
     ):
@@ -126,7 +126,7 @@ def check_whose_wishes_count(room: Room) -> None:
 
 
 def check_who_is_a_candidate(room: Room) -> None:
-    """Candidates are groups without children, and groups that are killed as a whole."""
+    """Candidates are groups without children and groups that are killed as a whole."""
     inner = f"{SLICE}/pod.service"
     leaves = {
         A: Leaf(1000, 0, 9, ((0, 45),)), f"{inner}/x": Leaf(1000, 0, 6),
@@ -152,9 +152,9 @@ def check_who_is_a_candidate(room: Room) -> None:
 
 
 def check_a_group_that_becomes_a_leaf(room: Room) -> None:
-    """B loses its last child between the evaluations at 5 and 6 s. At 6 s all of B's scans since
-    its creation count, and from 7 s on only their increase. Both groups stall from 0 s, so the
-    average exceeds the limit at 2 s, and the kill is 4 s later.
+    """B loses its last child between the evaluations at 5 and 6 s. At 6 s all of B's scanned pages
+    since its creation count, and from 7 s on only their increase. Both groups stall from 0 s, so
+    the average exceeds the limit at 2 s, and the kill is 4 s later.
     """
     files = {
         f"{UNITS}/s.slice": (
@@ -174,8 +174,8 @@ def check_a_group_that_becomes_a_leaf(room: Room) -> None:
 
 
 def check_where_nothing_runs(room: Room) -> None:
-    """A group without a task may be chosen like any other. Then nothing is killed, and the pause
-    begins.
+    """A group without a task may be chosen like other groups. Then nothing is killed, but the time
+    of 15 s without kills begins.
     """
     trace = stalled(69)
     trace.extra = [
@@ -186,8 +186,8 @@ def check_where_nothing_runs(room: Room) -> None:
 
 
 def check_accounts(room: Room) -> None:
-    """A group whose pressure accounting is off has no pressure file: it is neither watched nor
-    killed.
+    """If a group's pressure accounting is off, it has no pressure file. So it is neither watched
+    nor killed.
     """
     off = stalled()
     off.extra = [(1, f"pressure {B} off")]
@@ -197,7 +197,9 @@ def check_accounts(room: Room) -> None:
 
 
 def check_the_root(room: Room) -> None:
-    """systemd-oomd doesn't read the root's scans, so memory pressure of -.slice kills nothing."""
+    """systemd-oomd doesn't read the number of pages that the root scanned, so memory pressure of
+    -.slice causes no kill.
+    """
     note = (
         "/ is watched for memory pressure, by which systemd-oomd never kills: it doesn't look at "
         "the root's scans"
@@ -207,7 +209,8 @@ def check_the_root(room: Room) -> None:
 
 
 def check_samples_that_are_far_apart(room: Room) -> None:
-    """In a second without a new sample the previous number of scans counts."""
+    """In a second without a new sample, the number of scanned pages in the previous sample counts.
+    """
     trace = Trace(45, {A: Leaf(stalls=((0, 45),)), B: Leaf(9000)})
     apart = [line for line in trace.text().splitlines() if " mem " not in line]
     groups = ((A, 1, 9), (B, 9, 3))

@@ -1,9 +1,9 @@
-"""Builds traces and settings for checks of tools/systemd-oomd, and computes the decisions for them.
+"""Builds traces and settings for checks of tools/systemd-oomd, and runs tools/systemd-oomd on them.
 
-A task that only waits for memory makes its group fully stalled, so after n seconds avg10 is 100 (1
-- e^(-n/10)), at each even second, since averages are updated every 2 s: above 40 percent from 6 s
-on, above 50 from 8 s, above 60 from 10 s, above 80 from 18 s. Most runs take place in this process,
-which saves starting many others.
+A task that only waits for memory makes its group fully stalled. Averages are updated every 2 s, so
+at each even second n avg10 is 100 (1 - e^(-n/10)) percent. It is above 40 percent from 6 s on,
+above 50 from 8 s, above 60 from 10 s, and above 80 from 18 s. Most runs take place in this process,
+because starting a process for each run would take longer.
 """
 from __future__ import annotations
 
@@ -32,8 +32,8 @@ Decisions = list[tuple[float, str | None]]
 
 @dataclass
 class Leaf:
-    """A group with one task: its memory and swap (bytes), the pages that it scans per second, and
-    the intervals (s) in which it waits for memory.
+    """A group with a single task. It has a memory size and a swap size (bytes), a number of pages
+    that it scans per second, and the intervals (s) in which it waits for memory.
     """
 
     memory: int = 1000
@@ -44,7 +44,7 @@ class Leaf:
 
 @dataclass
 class Trace:
-    """A trace of some seconds. Each leaf has its own processor, on which its task waits for memory
+    """A trace of some seconds. Each Leaf has its own processor, on which its task waits for memory
     or sleeps. Memory is sampled each second, as tools/record does.
     """
 
@@ -78,21 +78,21 @@ class Trace:
 
     def text(self) -> str:
         lines = [it for it in self.lines() if it[0] <= self.seconds]
-        told = [f"{round(at * SECOND)} {line}" for at, line in sorted(lines, key=lambda it: it[0])]
+        body = [f"{round(at * SECOND)} {line}" for at, line in sorted(lines, key=lambda it: it[0])]
         return "\n".join(
-            [f"psitrace 2 cpus={len(self.leaves)}", *told, f"{self.seconds * SECOND} end\n"]
+            [f"psitrace 2 cpus={len(self.leaves)}", *body, f"{self.seconds * SECOND} end\n"]
         )
 
 
 def put(room: Room, files: dict[str, str], folder: str = "settings") -> None:
-    """Writes a folder of settings."""
+    """Writes a folder with settings of systemd-oomd."""
     os.makedirs(os.path.join(room.path, folder), exist_ok=True)
     for name, text in files.items():
         os.makedirs(os.path.dirname(os.path.join(room.path, folder, name)), exist_ok=True)
         room.file(f"{folder}/{name}", text)
 
 
-def told(room: Room, trace: Trace, *words: str) -> Done:
+def run_emulation(room: Room, trace: Trace, *words: str) -> Done:
     room.file("t.trace", trace.text())
     return room.run(OOMD, "t.trace", "--settings", "settings", *words)
 
@@ -100,7 +100,9 @@ def told(room: Room, trace: Trace, *words: str) -> Done:
 def decided(
     room: Room, trace: Trace, folder: str, version: int | None = None
 ) -> tuple[Decisions, list[str]]:
-    """Returns the times (s) and victims of the kills for a folder of settings, and the messages."""
+    """Runs the emulation on a folder of settings. Returns the times (s) and the victims of the
+    kills, and the messages.
+    """
     file = os.path.join(room.path, room.file(f"{folder}.trace", trace.text()))
     settings = Settings(os.path.join(room.path, folder), version)
     program = Program()
@@ -115,8 +117,8 @@ def decided(
 def decisions(
     room: Room, trace: Trace, files: dict[str, str], version: int | None = None, said: str = ""
 ) -> Decisions:
-    """Returns the times (s) and victims of the kills for these settings files. Raises if there is a
-    message other than `said`.
+    """Runs the emulation with these settings files. Returns the times (s) and the victims of the
+    kills. Raises if the messages differ from `said`.
     """
     put(room, files)
     found, notes = decided(room, trace, "settings", version)
@@ -125,8 +127,8 @@ def decisions(
 
 
 def stalled(seconds: int = 45, **more: Leaf) -> Trace:
-    """Returns a trace with three services: one always waits for memory, and scans less than the
-    second and more than the third.
+    """Returns a trace with three services. One always waits for memory, and scans fewer pages than
+    the second and more than the third.
     """
     leaves = {
         "a": Leaf(3000, 0, 10, ((0, seconds),)), "b": Leaf(1000, 0, 20), "c": Leaf(9000, 0, 5),
@@ -137,7 +139,7 @@ def stalled(seconds: int = 45, **more: Leaf) -> Trace:
 
 def swap_trace(memory: int, free: int, *leaves: tuple[str, int]) -> Trace:
     """Returns a trace of a machine with 1000 bytes of memory and 1000 bytes of swap. At 2.1 s,
-    `memory` bytes are used and `free` bytes of swap are free.
+    `memory` bytes of memory are used, and `free` bytes of swap are free.
     """
     extra = [
         (0.0, "host 1000 1000 1000"), (0.0, "mem / 100 0 0"), (2.1, f"host 1000 1000 {free}"),

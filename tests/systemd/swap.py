@@ -1,4 +1,6 @@
-"""Checks the rule of systemd-oomd for swap, and compares both rules with a plain implementation."""
+"""Checks the rule of systemd-oomd about swap, and compares both rules with a reference
+implementation.
+"""
 from __future__ import annotations
 
 import os
@@ -10,13 +12,13 @@ from psirules.program import Program
 from psisystemd.replayed import replayed
 from psisystemd.settings import Settings
 from systemd.slices import (
-    SECOND, A, B, UNITS, SWAPPED, Leaf, Trace, put, told, decisions, swap_trace,
+    SECOND, A, B, UNITS, SWAPPED, Leaf, Trace, put, run_emulation, decisions, swap_trace,
 )
 
 
 def check_swap(room: Room) -> None:
-    """If more than 90 percent of memory and of swap are used, the candidate with the most swap is
-    killed at the next multiple of 0.15 s.
+    """If more than 90 percent of memory and of swap are used, systemd-oomd kills the candidate with
+    the most swap at the next multiple of 0.15 s.
     """
     put(room, SWAPPED)
     for memory, free, victim in ((901, 99, B), (900, 99, None), (901, 100, None), (999, 0, B)):
@@ -28,7 +30,7 @@ def check_swap(room: Room) -> None:
 
 
 def check_who_has_swap(room: Room) -> None:
-    """Candidates use more than 5 percent of all swap."""
+    """Candidates are groups that use more than 5 percent of the whole swap."""
     put(room, SWAPPED)
     must_be("50 of 1000 are too few", decisions(room, swap_trace(999, 0, (A, 50), (B, 40)), {}),
             [(2.1, None)])
@@ -41,8 +43,8 @@ def check_who_has_swap(room: Room) -> None:
 
 
 def check_swap_that_stays_used(room: Room) -> None:
-    """An evaluation without a new sample changes nothing. Evaluations that would kill the same
-    group again are counted.
+    """An evaluation without a new sample changes nothing. The number of evaluations that would kill
+    the same group again is printed.
     """
     put(room, SWAPPED)
     leaves = {A: Leaf(100, 300), B: Leaf(100, 500)}
@@ -50,9 +52,9 @@ def check_swap_that_stays_used(room: Room) -> None:
         (at, line) for at in range(6) for line in ("host 1000 1000 0", "mem / 999 0 0")
     ]
     trace = Trace(6, leaves, full)
-    moments = [0.15, 1.05, 2.1, 3.0, 4.05, 5.1]
-    must_be("each sample", decisions(room, trace, {}), [(at, B) for at in moments])
-    output = told(room, trace).output
+    times = [0.15, 1.05, 2.1, 3.0, 4.05, 5.1]
+    must_be("each sample", decisions(room, trace, {}), [(at, B) for at in times])
+    output = run_emulation(room, trace).output
     must_be("told once", output.count("would kill"), 1)
     must("        again at 5 looks that found new samples, up to 5.1 s\n" in output, output)
 
@@ -60,12 +62,12 @@ def check_swap_that_stays_used(room: Room) -> None:
 def check_no_swap(room: Room) -> None:
     put(room, SWAPPED)
     none = Trace(2, {A: Leaf()}, [(0, "host 1000 0 0"), (0, "mem / 999 0 0")])
-    done = told(room, none)
+    done = run_emulation(room, none)
     done.must_print("a machine without swap", 0,
                     "nobody would be killed\n"
                     "watched for memory pressure: no group of the trace\n"
                     "watched for swap: the machine has none\n")
-    done = told(room, Trace(2, {A: Leaf()}))
+    done = run_emulation(room, Trace(2, {A: Leaf()}))
     must_be(
         "it isn't known", done.error,
         "systemd-oomd: swap can't be judged: the trace has no `host` line, or no `mem` line of /\n",
@@ -73,8 +75,8 @@ def check_no_swap(room: Room) -> None:
 
 
 def check_a_plain_reading(room: Room) -> None:
-    """For random traces a plain implementation, which reads the whole trace at each evaluation,
-    makes the same decisions.
+    """For random traces, the reference implementation, which parses the whole trace at each
+    evaluation, makes the same decisions.
     """
     kill = (
         "[Slice]\nManagedOOMSwap=kill\nManagedOOMMemoryPressure=kill\n"

@@ -1,4 +1,5 @@
-"""Checks the output of tools/systemd-oomd, and the commands of tools/rules for its settings."""
+"""Checks the output of tools/systemd-oomd, and the commands of tools/rules that read its settings.
+"""
 from __future__ import annotations
 
 import json
@@ -20,7 +21,7 @@ from systemd.slices import (
     SWAPPED,
     Leaf,
     put,
-    told,
+    run_emulation,
     stalled,
     swap_trace,
 )
@@ -33,7 +34,7 @@ def check_what_is_told(room: Room) -> None:
     }
     put(room, {**WATCHED, **wishes})
     trace = stalled(41, d=Leaf(700, 0, 99))
-    lines = told(room, trace).output.splitlines()
+    lines = run_emulation(room, trace).output.splitlines()
     must_be("the victim", lines[0], f"40 s  would kill {B}")
     must(
         lines[1].startswith("      memory pressure of /s.slice 98.")
@@ -53,16 +54,18 @@ def check_what_is_told(room: Room) -> None:
 def check_many_others(room: Room) -> None:
     put(room, WATCHED)
     trace = stalled(41, **{f"x{number}": Leaf(100, 0, 0) for number in range(5)})
-    must("      not 3 more, which --all shows\n" in told(room, trace).output, "the rest is counted")
-    must_be("--all has each", told(room, trace, "--all").output.count("      not /s.slice/"), 7)
+    must("      not 3 more, which --all shows\n" in run_emulation(room, trace).output,
+         "the rest is counted")
+    must_be("--all has each",
+            run_emulation(room, trace, "--all").output.count("      not /s.slice/"), 7)
 
 
 def check_the_story(room: Room) -> None:
-    """With a limit of 50 percent for 20 s, systemd-oomd and the equivalent rules of psi_oomd kill
-    at the same times.
+    """With a limit of 50 percent for 20 s, systemd-oomd and equivalent rules of psi_oomd kill at
+    the same times.
     """
     kills = [
-        moment for moment, _, _, _ in room.kills(
+        time_ns for time_ns, _, _, _ in room.kills(
             RUNAWAY, "--rules", room.file("r.json", story_rules()), *EACH_SECOND
         )
     ]
@@ -73,8 +76,8 @@ def check_the_story(room: Room) -> None:
 
 
 def story_rules() -> str:
-    """Returns rules with a delay of 15 s that kill the largest of the watched groups of the
-    example.
+    """Returns rules that kill the largest of the watched groups in the example. The delay between
+    kills is 15 s.
     """
     detectors = [
         {
@@ -106,7 +109,7 @@ def check_comparing(room: Room) -> None:
     must_be("as JSON", [(it["moment_ns"], it["path"]) for it in record["kills"]],
             [(146 * SECOND, "/batch/import")])
     put(room, {**WATCHED})
-    other = told(room, stalled(), "--compare", RUNAWAY_RULES)
+    other = run_emulation(room, stalled(), "--compare", RUNAWAY_RULES)
     must("first kill: by systemd-oomd alone\n" in other.output, other.output)
 
 
@@ -123,8 +126,8 @@ def check_expectations(room: Room) -> None:
     room.file("want.txt", "kill /batch/import by swap\nat most 1 kill\n")
     must_be("not by swap, and more than one", room.run(RULES, *words).output.count("FAIL  "), 2)
     with open(RUNAWAY, "rb") as trace:
-        given = room.run(RULES, *words[:2], "-", *words[3:], "--json", given=trace.read())
-    record = json.loads(given.output)
+        printed = room.run(RULES, *words[:2], "-", *words[3:], "--json", stdin=trace.read())
+    record = json.loads(printed.output)
     must_be("who it was, as JSON", record["traces"][0]["kills"][0]["ruleset_name"],
             "memory pressure")
     for more, wrong in (
@@ -145,8 +148,8 @@ def check_expectations(room: Room) -> None:
 
 
 def check_rules_of_settings(room: Room) -> None:
-    """psi_oomd accepts the rules that from-systemd makes, and they kill the groups that
-    systemd-oomd would have killed.
+    """psi_oomd accepts the rules that from-systemd makes. They kill the groups that systemd-oomd
+    would have killed.
     """
     done = room.run(RULES, "from-systemd", STORY)
     must_be("nothing is lost", (done.status, done.error), (0, ""))
@@ -157,13 +160,13 @@ def check_rules_of_settings(room: Room) -> None:
     put(room, {**WATCHED, **SWAPPED})
     done = room.run(RULES, "from-systemd", "settings")
     words = ("--rules", room.file("r.json", done.output), *EACH_SECOND, "-")
-    kills = room.kills(*words, given=stalled().text())
-    must_be("of files", [(moment // SECOND, path) for moment, _, _, path in kills], [(40, B)])
-    kills = room.kills(*words, given=swap_trace(999, 0, (A, 300), (B, 500)).text())
-    must_be("of swap", [(moment // SECOND, path) for moment, _, _, path in kills], [(3, B)])
+    kills = room.kills(*words, stdin=stalled().text())
+    must_be("of files", [(time_ns // SECOND, path) for time_ns, _, _, path in kills], [(40, B)])
+    kills = room.kills(*words, stdin=swap_trace(999, 0, (A, 300), (B, 500)).text())
+    must_be("of swap", [(time_ns // SECOND, path) for time_ns, _, _, path in kills], [(3, B)])
 
 
-# The last words of each note about a setting that psi_oomd's rules can't express.
+# The last words of each message about a setting that psi_oomd's rules can't express.
 LOST = (
     "etc/systemd/oomd.conf line 2: a limit of 89.5 %: thresholds are whole, so it is "
     "written 90 % (LOST)",
@@ -187,8 +190,8 @@ LOST = (
 
 
 def check_what_rules_cant_say(room: Room) -> None:
-    """from-systemd prints a line for each setting that rules can't express, and its status says
-    that some were lost.
+    """from-systemd prints a message for each setting that rules can't express. Its exit status
+    shows that settings were lost.
     """
     conf = "[OOM]\nSwapUsedLimit=89.5%\nDefaultMemoryPressureDurationSec=1500ms\n"
     put(room, {

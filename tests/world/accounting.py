@@ -1,10 +1,10 @@
-"""Checks of groups whose pressure accounting is switched off and on."""
+"""Checks of groups whose pressure accounting is switched on and off."""
 from __future__ import annotations
 
 from unittest import mock
 
 from harness import must_be
-from world.generated import MS, moments, played, source_of
+from world.generated import MS, times, played, source_of
 from psiconvert import convert as conversion
 from psiconvert.convert import Converted, Wanted
 from psiread import events as kinds
@@ -15,7 +15,9 @@ from psiread.window import Window
 
 
 def check_too_many_switches(program: str) -> None:
-    """A trace ends before accounting would be switched too often, and the summary says so."""
+    """If accounting would be switched too often, the trace ends before that, and the summary says
+    so.
+    """
     events = [accounting(place * MS, "/a", place % 2 == 0) for place in range(1, 20)]
     with mock.patch.object(conversion, "MOST_SWITCHES", 7):
         found = played(program, source_of(events, Snapshot(0, {"/a": "none"})))
@@ -24,17 +26,17 @@ def check_too_many_switches(program: str) -> None:
         must_be("the end", found.lines[-1], "6000000 end")
 
 
-def accounting(moment: int, path: str, is_on: bool) -> Event:
-    """Returns a recorder's marker: at `moment` (ns) a sample found that a group's accounting is on
-    or off.
+def accounting(time_ns: int, path: str, is_on: bool) -> Event:
+    """Returns a marker of the recorder: a sample at `time_ns` found that a group's accounting
+    is on or off.
     """
-    return kinds.Marker(moment, 0, 1,
+    return kinds.Marker(time_ns, 0, 1,
                         f"psirec accounting {path} {'on' if is_on else 'off'}\n".encode())
 
 
 def switches_of(found: Converted) -> list[str]:
-    """Returns the trace lines that switch accounting. Raises unless the header has version 2
-    exactly if there are such lines.
+    """Returns the lines of the trace that switch accounting. Raises unless the trace's version is 2
+    if there are such lines, and 1 if not.
     """
     lines = [line for line in found.lines if " pressure " in line]
     must_be("the header", found.lines[0].split(" ")[:2], ["psitrace", "2" if lines else "1"])
@@ -42,8 +44,8 @@ def switches_of(found: Converted) -> list[str]:
 
 
 def check_accounting(program: str) -> None:
-    """A group that isn't accounted at the start is switched off right after its creation, and each
-    later change is at the time at which a sample saw it.
+    """If a group isn't accounted at the start, its accounting is switched off directly after its
+    creation. Each later change has the time of the sample that found it.
     """
     events = [
         accounting(5 * MS, "/a", True),
@@ -77,8 +79,10 @@ def check_accounting(program: str) -> None:
 
 
 def check_accounting_of_groups_that_come(program: str) -> None:
-    """A group that is created, or created again, is accounted until a sample shows otherwise."""
-    at = moments()
+    """A group that is created, or created again, is accounted until a sample finds its accounting
+    off.
+    """
+    at = times()
     events: list[Event] = [
         kinds.GroupRemoved(next(at), 0, 1, 0, b"/a"),
         kinds.GroupMade(next(at), 0, 1, 0, b"/a"),
@@ -89,16 +93,16 @@ def check_accounting_of_groups_that_come(program: str) -> None:
         kinds.Wakeup(next(at), 0, 1, 1, 0),
     ]
     found = played(program, source_of(events, Snapshot(0, {"/a": "none"}, ["/a"])))
-    told = [line for line in found.lines if "/a" in line]
+    lines = [line for line in found.lines if "/a" in line]
     again = ["0 rmgroup /a", "1000000 group /a", "2000000 pressure /a off", "3000000 group /a/b"]
-    must_be("the first", told[:-1], ["0 group /a", "0 pressure /a off", *again])
-    must_be("a group that can't go stands for the next of its path", told[-1],
+    must_be("the first", lines[:-1], ["0 group /a", "0 pressure /a off", *again])
+    must_be("a group that can't go stands for the next of its path", lines[-1],
             "5000000 pressure /a on")
 
 
 def check_accounting_before_the_snapshot(program: str) -> None:
-    """A flight recorder's snapshot is later than the recording's start: a group's state at the
-    start is computed from the snapshot and the changes of accounting before it.
+    """The snapshot of a flight recorder is later than the recording's start. A group's state at the
+    start is computed from the snapshot and from the changes of accounting before it.
     """
     paths, end = ("/a", "/b", "/c", "/d"), kinds.Marker(9 * MS, 0, 1, b"psirec snapshot end\n")
     events: list[Event] = [

@@ -1,4 +1,4 @@
-"""Makes recordings from generated events, and converts them to traces."""
+"""Makes recordings of generated events, and converts them to traces."""
 from __future__ import annotations
 
 from collections.abc import Iterator, Sequence
@@ -24,9 +24,7 @@ def source_of(
 def played(
     program: str, source: Source | Sequence[Event], wanted: Wanted | None = None
 ) -> Converted:
-    """Converts a recording, or the part `wanted` of it, and raises unless psi_oomd accepts the
-    trace.
-    """
+    """Converts a recording, or only the part `wanted`. Raises unless psi_oomd accepts the trace."""
     source = source if isinstance(source, Source) else source_of(source)
     found = convert(source,
                     wanted or Wanted(Window(source.start, source.stop), Method.STATE, None, {}))
@@ -39,6 +37,6 @@ def words_of(found: Converted) -> list[str]:
     return [line.split(" ", 1)[1] for line in found.lines[1:]]
 
 
-def moments() -> Iterator[int]:
-    """Yields times (ns) 1 ms apart."""
+def times() -> Iterator[int]:
+    """Yields times (ns) that are 1 ms apart."""
     return (place * MS for place in range(1, 10**6))
