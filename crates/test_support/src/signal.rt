@@ -28,7 +28,7 @@ impl Signal {
         self.is_sent.store(true, SeqCst);
     }
 
-    /// Waits until the signal is sent, and gives up after checking it `TURNS` times (a few seconds).
+    /// Waits until the signal is sent, and gives up after `TURNS` checks (a few seconds).
     pub fn wait(&self) {
         for _ in 0..TURNS {
             if self.is_sent.load(SeqCst) {
