@@ -5,7 +5,7 @@ tests.
 usage: bench/sizes.py [--unreached]
 
 Counts lines that are neither blank nor comments. In definitions and proofs, `use` lines don't count
-either. docs/ARCHITECTURE.md lists the files that have to be believed. Laws, which are proved, are
+either. docs/ARCHITECTURE.md lists the files that have to be trusted. Laws, which are proved, are
 in other files. A contract is a clause of a function or a loop (`requires`, `ensures`, `invariant`),
 an `assert`, or a `ghost` item, up to the line with its last closing bracket.
 
@@ -24,7 +24,7 @@ from believed import CRATES, TOP
 CONTRACT = re.compile(r"(requires|ensures|invariant|measure|assert|ghost)\b")
 # Crates that only tests use, although their names don't end with `_tests`.
 TEST_CRATES = ("outside_fakes", "test_support")
-BELIEVED_TITLE = "## The files that have to be believed"
+BELIEVED_TITLE = "## The files that have to be trusted"
 
 
 def counted(lines: Iterable[str], comment: str) -> Iterator[str]:
@@ -133,8 +133,8 @@ def sizes() -> Iterator[tuple[str, int]]:
     tests = [path for path in rust if is_of_tests(path.relative_to(CRATES).parts[0])]
     code, contracts = sum_of(rust_lines(path) for path in rust if path not in tests)
     own = [path for path in definitions if path.is_relative_to(CRATES)]
-    yield "lines of definitions to believe", sum(map(definition_lines, own))
-    yield "lines of types to believe (code, counted again below)", sum_of(map(rust_lines, types))[0]
+    yield "lines of definitions to trust", sum(map(definition_lines, own))
+    yield "lines of types to trust (code, counted again below)", sum_of(map(rust_lines, types))[0]
     yield "lines of other definitions and laws", sum(
         definition_lines(path) for path in specs if path not in definitions
     )
@@ -164,7 +164,7 @@ def main(words: list[str]) -> int:
     depends. Returns 1 if the list in docs/ARCHITECTURE.md is wrong.
     """
     faults = [
-        f"docs/ARCHITECTURE.md, of the files that have to be believed: {fault}"
+        f"docs/ARCHITECTURE.md, of the files that have to be trusted: {fault}"
         for fault in list_faults()
     ]
     if faults:

@@ -176,8 +176,8 @@ class Page:
 
 
 def flags(folder: str) -> list[str]:
-    """Returns the browser's arguments: without network requests, and for root without a sandbox,
-    which Chromium refuses to root.
+    """Returns the browser's arguments. They turn off background network requests and, for root,
+    the sandbox, since Chromium doesn't run as root with a sandbox.
     """
     found = [
         "--headless", "--disable-gpu", "--hide-scrollbars", "--no-first-run",

@@ -140,8 +140,8 @@ Bounds = Callable[[str, int], tuple[int, int]]
 
 
 def bounds_of(events: Sequence[Event], start: int) -> Bounds:
-    """Returns bounds that are based on a recording's probes. The trace begins at `start` (ns of the
-    recording's clock).
+    """Returns the bounds of wakeups in a recording whose probes recorded when psi counted each
+    wakeup. The trace begins at `start` (ns of the recording's clock).
     """
     pairs: dict[int, list[tuple[int, int]]] = defaultdict(list)
     for place, time_ns in counted_at(events).items():

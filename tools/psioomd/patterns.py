@@ -1,5 +1,5 @@
-"""Matches patterns of control groups. oomd passes them to glob(3) with GLOB_BRACE, below its mount
-point.
+"""Matches paths of control groups against oomd's patterns. oomd passes a pattern to glob(3) with
+GLOB_BRACE, relative to the mount point of the cgroup file system.
 """
 from __future__ import annotations
 

@@ -20,7 +20,8 @@ from .records import Decoder
 
 MISSED = 1 << 31
 MISSED_STORED = 1 << 30
-# The bits of `commit` that contain the number of used bytes. The largest pages have 1 MB.
+# The bits of the page header's field `commit` that contain the number of used bytes. A page has at
+# most 1 MB.
 USED = (1 << 30) - 1
 
 # The kinds of records. The kinds 1 to 28 are lengths in words of four bytes. Kind 0 has its length

@@ -31,7 +31,8 @@ TOP, BOTTOM = 8, 22
 LONGEST, LONGEST_OF_MEMORY = 60, 42
 # The height (pixels) of the space for events of triggers, below the curves of a picture.
 EVENTS = 16
-# The width and the height of a strip, in units of its own. The page stretches a strip to its width.
+# The width and the height of a strip, in units of its SVG. The strip is scaled to the width of the
+# page.
 STRIP, STRIP_HEIGHT = 1000, 12
 
 

@@ -176,8 +176,9 @@ class Plan:
     # ---------------------------------------------------------------- adding overlays to blocks
 
     def lay(self, group: int, over: Overlay, amount: int) -> int:
-        """Adds overlays of the group to the blocks of its descendants, until the sum of time (ns)
-        times weight (ms) is `amount`. Returns the amount that was reached.
+        """Adds overlays of the group to the blocks of its descendants. An overlay on a processor
+        contributes its time (ns) times the processor's weight (ms). Adds as many as fit into
+        `amount` (ns times ms), and returns the sum of their contributions.
         """
         done, known = 0, self.has[group]
         for processor in sorted(known, key=lambda it: -known[it][0]):
