@@ -1,5 +1,6 @@
-//! The conversion of a text of the kernel's ftrace to a trace: the definitions that the contracts
-//! of the importer use, their types, and laws about them. This crate parses nothing.
+//! Specifies how the text output of the kernel's ftrace is converted to a trace: the definitions
+//! that the importer's contracts use, their types, and laws about them. The parser itself is in the
+//! crate ftrace_import.
 //!
 //! Read the files of `specs/` in this order: `Places` (first and last occurrences), `Tails`
 //! (numbers and fields), `Marked` (the lines that are imported, and what each reports), `Events`

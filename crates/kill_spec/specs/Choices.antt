@@ -1,4 +1,4 @@
--- Laws of choices among groups. They characterise the chosen group by a relation between groups,
+-- Laws of choices among groups. They characterize the chosen group by a relation between groups,
 -- without referring to a search.
 use Rattle.std.specs.Prelude.{◌≡◌, ◌↔◌, ◌⊎◌, ℕ, ◌<◌, List, [], map, Option, None, Some, Contains}
 use Rattle.psi_spec.specs.declared.machine.GroupLife.{GroupLife}
@@ -7,15 +7,15 @@ use Rattle.kill_spec.specs.Readings.{path_of}
 use Rattle.kill_spec.specs.LegalReadings.{Ascend, ComesBefore}
 use Rattle.kill_spec.specs.Victims.{beats_by, largest, memory_in_use, rank_of, unbeaten}
 
--- `first` has a greater ranking value (`measure`) than `second`, or an equal value and a lower path
--- in byte order.
+-- `first` has a greater ranking value (`measure`) than `second`, or the values are equal and the
+-- path of `first` comes before the path of `second` in byte order.
 abbrev pub IsGreaterBy : List GroupLife → (GroupReading → ℕ) → GroupReading → GroupReading → Type 0
 IsGreaterBy lives measure first second =
     (measure second < measure first)
     ⊎ ((measure first ≡ measure second) × ComesBefore (path_of lives first) (path_of lives second))
 
 -- `first` has a better kill preference than `second`; or the preferences are equal and its ranking
--- value is greater; or both are equal and its path is lower.
+-- value is greater; or both are equal and its path comes first in byte order.
 abbrev pub BeatsBy : List GroupLife → (GroupReading → ℕ) → GroupReading → GroupReading → Type 0
 BeatsBy lives measure first second =
     (rank_of second < rank_of first)
@@ -42,7 +42,8 @@ UnbeatenIsChoice = (lives : List GroupLife) (measure : GroupReading → ℕ)
     IsChoice (BeatsBy lives measure) groups (unbeaten (beats_by lives measure) groups)
 
 -- If a list of groups is sorted by path, the search for the largest group finds the group that uses
--- the most memory. Among groups of equal size, it finds the group with the lowest path.
+-- the most memory. Among groups of equal size, it finds the group whose path comes first in byte
+-- order.
 abbrev pub LargestIsChoice : Type 0
 LargestIsChoice = (lives : List GroupLife) (groups : List GroupReading) →
     Ascend (map (path_of lives) groups) →

@@ -44,8 +44,8 @@ holds_for condition duration_s now past = held_for condition (of_seconds duratio
 
 -- ---- conditions on one reading
 
--- The highest `full` average (fixed point) of a resource over a window among the groups that match
--- the patterns, or 0 if no group matches.
+-- The highest `full` average (fixed point) of a resource among the groups that match the patterns,
+-- or 0 if no group matches. `window` is the index of the averaging window (10, 60 or 300 s).
 abbrev pub greatest_full : List GroupLife → List Pattern → Res → ℕ → Reading → ℕ
 greatest_full lives patterns resource window reading =
     fold max 0 (map (full_average resource window) (matches lives patterns reading))

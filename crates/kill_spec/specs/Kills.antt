@@ -67,9 +67,9 @@ is_resting actions at (Some kill) = nat_lt at (kill.at + delay_of (slice_get act
 
 -- ---- the kills of rulesets
 
--- The kills of a ruleset at the reading `now`. `past` are the earlier readings, and `earlier` are
--- the ruleset's kills at the earlier readings. The actions run only if the ruleset fires and
--- doesn't pause; any other ruleset kills no group.
+-- The kills of the ruleset `rule`, which has the number `number`, at the reading `now`. `past` are
+-- the earlier readings, and `earlier` are the ruleset's kills at these readings. The actions run
+-- only if the ruleset fires and doesn't pause; otherwise it kills no group.
 abbrev pub kills_at : List GroupLife → ℕ → Rule → Reading → List Reading → List (List Kill) → List Kill
 kills_at lives number rule now past earlier =
     if ruleset_fires lives rule now past && not (is_resting rule.actions now.at (last_ending rule.actions earlier))

@@ -86,15 +86,15 @@ is_less Greater = false
 abbrev pub has_path_before : List GroupLife → GroupReading → GroupReading → Bool
 has_path_before lives first second = is_less (slice_cmp nat_cmp (path_of lives first) (path_of lives second))
 
--- Whether `first` has a greater ranking value (`measure`) than `second`, or an equal value and a
--- lower path.
+-- Whether `first` has a greater ranking value (`measure`) than `second`, or the values are equal and
+-- the path of `first` comes before the path of `second` in byte order.
 abbrev pub is_greater_by : List GroupLife → (GroupReading → ℕ) → GroupReading → GroupReading → Bool
 is_greater_by lives measure first second =
     nat_lt (measure second) (measure first)
     || (measure first == measure second && has_path_before lives first second)
 
 -- Whether `first` beats `second`: its kill preference is better; or the preferences are equal and
--- its ranking value is greater; or both are equal and its path is lower.
+-- its ranking value is greater; or both are equal and its path comes first in byte order.
 abbrev pub beats_by : List GroupLife → (GroupReading → ℕ) → GroupReading → GroupReading → Bool
 beats_by lives measure first second =
     nat_lt (rank_of second) (rank_of first)
@@ -125,7 +125,8 @@ chosen_by lives is_eligible measure groups = unbeaten (beats_by lives measure) (
 abbrev pub memory_in_use : GroupReading → ℕ
 memory_in_use group = group.current
 
--- Whether `first` uses more memory than `second`, or an equal amount and its path is lower.
+-- Whether `first` uses more memory than `second`, or an equal amount and its path comes first in
+-- byte order.
 abbrev pub is_larger : List GroupLife → GroupReading → GroupReading → Bool
 is_larger lives first second = is_greater_by lives memory_in_use first second
 

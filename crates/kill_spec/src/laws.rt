@@ -29,8 +29,8 @@ pub fn law_victims()
     ensures ends { DescentEnds }
 {}
 
-/// Two kills that each ended a ruleset's chain of actions are apart by at least the delay of the
-/// first kill's action, and are never at the same reading. A group is killed only as the victim of
+/// If two kills of a ruleset each ended its chain of actions, they are apart by at least the delay
+/// of the first kill's action, and are never at the same reading. A group is killed only as the victim of
 /// an action of a ruleset that fires.
 pub fn law_kills()
     ensures apart { EndingsApart }

@@ -45,14 +45,12 @@ impl Pending {
         &self.bytes
     }
 
-    // Returns the number of bytes that still fit in the buffer.
     fn room(&self) -> usize
         ensures { result + length self.now ≡ ROOM }
     {
         ROOM - self.bytes.len()
     }
 
-    // Appends bytes, which must fit in the buffer.
     fn append(&mut self, piece: &[u8])
         requires { length self.old + length piece.now ≤ ROOM }
         ensures { self.new ≡ self.old ++ piece.now }
@@ -62,7 +60,6 @@ impl Pending {
         }
     }
 
-    // Removes the first `count` bytes.
     fn remove_prefix(&mut self, count: usize)
         requires { count ≤ length self.old }
         ensures { self.new ≡ drop count self.old }

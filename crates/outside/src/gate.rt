@@ -1,7 +1,7 @@
 //! Points at which tests can pause a thread. The programs use a gate that never pauses.
 use psi_base::Cpu;
 
-/// Synchronisation points at which a test may make one thread wait for another thread. The calls
+/// Synchronization points at which a test may make one thread wait for another thread. The calls
 /// never change a result.
 pub trait Gate: Sync {
     /// Called after a worker has written a change of processor `cpu`. `count` is the number of

@@ -44,12 +44,16 @@ is_cpu Io = false
 is_cpu Memory = false
 is_cpu Cpu = true
 
--- The `full` line of a resource. For CPU of the root group, all numbers are zero, as in the kernel.
+-- `full_line res is_root totals averages`: the `full` line of the resource `res`, from the totals
+-- (ns) and averages of all states. For the CPU of the root group, all numbers are zero, as in the
+-- kernel.
 abbrev pub full_line : Res → Bool → List ℕ → List (List ℕ) → List ℕ
 full_line res is_root totals averages =
     if is_root && is_cpu res then file_line FullStalled [] 0 else state_line res FullStalled totals averages
 
--- The text of the pressure file of a resource: the `some` line and the `full` line.
+-- `file_text res is_root totals averages`: the text of the pressure file of the resource `res`: the
+-- `some` line and the `full` line. `is_root` is whether the group is the root. `totals` and
+-- `averages` have the totals (ns) and averages of all states.
 unfoldable pub file_text : Res → Bool → List ℕ → List (List ℕ) → List ℕ
 file_text res is_root totals averages = state_line res SomeStalled totals averages ++ full_line res is_root totals averages
 

@@ -92,8 +92,8 @@ pub record LoadApproaches : Type 0 where
 abbrev pub AtMostHundred : Type 0
 AtMostHundred = (at : ℕ) (ticks : List (ℕ × List ℕ)) → HasTotals ticks → IsAverageState (averages_after at ticks)
 
--- If the whole covered time was stalled and no period was missed, an update raises each average of
--- the quantity toward 100 percent, but not above 100 percent.
+-- If the stall time that isn't sampled yet is at least the covered time and no period was missed, an
+-- update raises each average of the quantity toward 100 percent, but not above 100 percent.
 abbrev pub RisesWhenStalled : Type 0
 RisesWhenStalled = (old : AverageState) (now : ℕ) (totals : List ℕ) (place factor : ℕ) →
     IsAverageState old → length totals ≡ length pressure_places → place < length pressure_places → factor < 3 →
@@ -199,7 +199,7 @@ TotalsNeverFall = (cpus : ℕ) (lives : List GroupLife) (ticks more : List Tick)
     slice_index (totals_after cpus lives ticks slot) i ≤ slice_index (totals_after cpus lives (ticks ++ more) slot) i
 
 -- The share of a state is at most the time since the previous tick. The share of interrupts is at
--- most a second longer.
+-- most that time plus one second.
 abbrev pub NextSharesWithin : Type 0
 NextSharesWithin = (last tick : Tick) (slot : ℕ) → IsNextTick last tick →
     AreAmountsWithin (tick.at - last.at) (tick.at - last.at + longest_irq) (shares (growths (row_at last slot) (row_at tick slot)))

@@ -18,8 +18,8 @@ zip_with f (x ∷ xs) (y ∷ ys) = f x y ∷ zip_with f xs ys
 abbrev pub irq_place : ℕ
 irq_place = 7
 
--- The indexes of the pressure quantities in a list of times: all states except nonidle, and
--- interrupt time.
+-- The indexes of the pressure quantities in a list of times: the six states other than nonidle,
+-- followed by interrupt time.
 abbrev pub pressure_places : List ℕ
 pressure_places = 0 ∷ 1 ∷ 2 ∷ 3 ∷ 4 ∷ 5 ∷ irq_place ∷ []
 

@@ -25,13 +25,14 @@ ticks_until length end = end / length
 abbrev pub is_due : ℕ → ℕ → ℕ → Bool
 is_due period length i = nat_lt (tick_moment length (i - 1) / period) (tick_moment length i / period)
 
--- Whether the rules are evaluated at tick number `i`: a multiple of `interval` (ns) is due at this
--- tick.
+-- `is_evaluation interval length i`: whether the rules are evaluated at tick number `i`, for ticks
+-- of `length` ns: a multiple of `interval` (ns) is due at this tick.
 abbrev pub is_evaluation : ℕ → ℕ → ℕ → Bool
 is_evaluation interval length i = is_due interval length i
 
--- Whether tick number `i` is reported: it is the last tick, or a multiple of the report period (ns)
--- is due. With a period of 0 only the last tick is reported.
+-- `is_report period length last i`: whether tick number `i` is reported, for ticks of `length` ns:
+-- it is tick number `last`, or a multiple of the report period `period` (ns) is due. With a period
+-- of 0, only tick number `last` is reported.
 abbrev pub is_report : ℕ → ℕ → ℕ → ℕ → Bool
 is_report period length last i = i == last || (nat_lt 0 period && is_due period length i)
 
@@ -57,7 +58,8 @@ times_until cpu slot events at =
 abbrev pub row_until : ℕ → ℕ → List Event → ℕ → List (List ℕ)
 row_until cpus slot events at = map (λ cpu. times_until cpu slot events at) (range_with_len 0 cpus)
 
--- The times (ns) of all groups that a trace ever creates, up to time `at` (ns).
+-- The times (ns) up to time `at` (ns) of all groups of a trace, including groups that are created
+-- after `at`.
 abbrev pub table_until : ℕ → List Event → ℕ → List (List (List ℕ))
 table_until cpus events at = map (λ slot. row_until cpus slot events at) (range_with_len 0 (length (after events).groups))
 

@@ -1,10 +1,10 @@
 //! The pressure quantities and the types for their values. A quantity is identified by its index.
 
-/// The number of times that are stored for a group on a processor: one for each of the seven
-/// states, and interrupt time.
+/// The length of a list of times of a group on a processor: the times in the seven states, and the
+/// interrupt time.
 pub const TIMES: usize = 8;
 
-/// The number of pressure quantities: all states except nonidle, and interrupt time.
+/// The number of pressure quantities: the six states other than nonidle, plus interrupt time.
 pub const QUANTITIES: usize = 7;
 
 /// The times (ns) of a group on a processor: one for each state, in the order of the states,

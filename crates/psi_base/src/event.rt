@@ -228,7 +228,7 @@ pub enum Cause {
     TimeTooLate,
     /// The trace already has 4,000,000 event lines.
     TooManyEvents,
-    /// No live group has the path.
+    /// No live group has the path that the event names.
     UnknownGroup,
     /// A new group has the path of a live group.
     GroupExists,
@@ -238,13 +238,13 @@ pub enum Cause {
     GroupBusy,
     /// 1,024 groups were already created, including the root.
     TooManyGroups,
-    /// No live task has this pid.
+    /// No live task has the pid that the event names.
     UnknownTask,
     /// A new task has the pid of a live task.
     TaskExists,
     /// A task is created although 65,536 tasks are live, the maximum number.
     TooManyTasks,
-    /// The header declares no processor with this number.
+    /// The event names a processor whose number is at least the number of processors in the header.
     BadCpu,
     /// The task that enters or leaves a memory stall isn't running.
     NotRunning,

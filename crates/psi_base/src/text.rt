@@ -4,8 +4,7 @@ ghost use Rattle.std.specs.Prelude.{◌≡◌, ℕ, List, IfOk};
 use std::alloc::{AllocError, AllocFailed, Global};
 use std::marker::Model;
 
-/// The error that memory ran out. The field is private, so only a failed allocation creates this
-/// error.
+/// The out-of-memory error. Its field is private, so only a failed allocation creates it.
 #[derive(Clone, Copy, Debug, PartialEq, Eq)]
 pub struct NoMemory {
     refused: (),

@@ -35,8 +35,8 @@ IsOneLive groups =
     (slot : ℕ) (group : GroupLife) → slice_get groups slot ≡ Some group → is_live group ≡ true → slot_of groups group.path ≡ Some slot
 
 -- The invariant of the groups after legal events: there are at most 1,024 groups; the first is the
--- root, live and with its accounting on; parents have smaller slots and match the paths; and no two
--- live groups have the same path.
+-- root, live and with its accounting on; each other group has a parent, whose slot is smaller and
+-- whose path is the group's path up to the last slash; and no two live groups have the same path.
 pub record AreGroups (groups : List GroupLife) : Type 0 where
   pub few : length groups ≤ most_groups
   pub rooted : take 1 groups ≡ root ∷ []

@@ -210,8 +210,8 @@ first_world =
 
 -- ---- the effects of events on tasks and groups
 
--- Applies `f` to the task with pid `pid`, which is passed as an optional task. `None` leaves the
--- tasks unchanged.
+-- `change_to tasks pid f task`: the tasks after the task with pid `pid` is replaced by `f` applied
+-- to `task`. If `task` is `None`, the tasks are unchanged.
 abbrev pub change_to : Tasks → ℕ → (Task → Task) → Option Task → Tasks
 change_to tasks pid f None = tasks
 change_to tasks pid f (Some task) = put tasks pid (f task)
@@ -226,7 +226,8 @@ abbrev pub new_task : List GroupLife → List ℕ → ℕ → Task
 new_task groups path cpu =
     record { slot = record { 0 = unwrap_or (slot_of groups path) 0 }; cpu = record { 0 = cpu }; mode = Ready; stalled = false }
 
--- The task after it was put on the run queue of processor `cpu`. Its memory stall continues.
+-- The task after it was put on the run queue of processor `cpu`. If it was in a memory stall, it
+-- still is.
 abbrev pub prepared_changes : ℕ → Task → Task
 prepared_changes cpu task = record task { mode = Ready; cpu = record { 0 = cpu } }
 
@@ -257,7 +258,7 @@ start None tasks = tasks
 start (Some pid) tasks = change tasks pid.0 (λ task. record task { mode = Running })
 
 -- The effects that events have on tasks: no effect; a new task in a group on a processor; a task
--- that is put on the run queue of a processor; the begin or end of a task's memory stall; a task
+-- that is put on the run queue of a processor; the start or end of a task's memory stall; a task
 -- that moves to another group; a switch from the running task of a processor to the next task;
 -- interrupts that delay a processor's running task; and a switch of a group's accounting, which
 -- concerns all processors. The last two effects change no task.

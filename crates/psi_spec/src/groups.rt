@@ -2,8 +2,8 @@
 ghost use Rattle.psi_spec.specs.Laws.{AncestorsAreOlder, AreGroupsFirst, AreGroupsKept, ClimbsKept, ParentsKept, RootIsAbove, UnderByStep};
 
 /// The invariant of the groups holds at the start and after each legal event: there are at most
-/// 1,024 groups; the first is the root, with its accounting on; parents are older than their
-/// children and match the paths; and no two live groups have the same path.
+/// 1,024 groups; the first is the root, with its accounting on; each parent is older than its child
+/// and has the child's path up to the last slash; and no two live groups have the same path.
 pub fn law_legal_groups()
     ensures first { AreGroupsFirst }
     ensures unchanged { AreGroupsKept }

@@ -7,7 +7,8 @@ use psi_base::{Path, Text};
 /// A parsed command. Options that are absent from the command line have their default values.
 #[derive(Drop)]
 pub enum Command {
-    /// Prints the time (ns) that each group spent in each state on each processor.
+    /// Prints the time (ns) that each group spent in each state on each processor and, for a trace
+    /// of version 2, the interrupt time (ns).
     Stall {
         /// The name of the trace's file, or `-` for standard input.
         trace: Text,
