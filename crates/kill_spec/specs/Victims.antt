@@ -86,8 +86,8 @@ is_less Greater = false
 abbrev pub has_path_before : List GroupLife → GroupReading → GroupReading → Bool
 has_path_before lives first second = is_less (slice_cmp nat_cmp (path_of lives first) (path_of lives second))
 
--- Whether `first` has a greater ranking value (`measure`) than `second`, or the values are equal and
--- the path of `first` comes before the path of `second` in byte order.
+-- Whether `first` has a greater ranking value (`measure`) than `second`, or the values are equal
+-- and the path of `first` comes before the path of `second` in byte order.
 abbrev pub is_greater_by : List GroupLife → (GroupReading → ℕ) → GroupReading → GroupReading → Bool
 is_greater_by lives measure first second =
     nat_lt (measure second) (measure first)

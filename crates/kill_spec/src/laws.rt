@@ -30,8 +30,8 @@ pub fn law_victims()
 {}
 
 /// If two kills of a ruleset each ended its chain of actions, they are apart by at least the delay
-/// of the first kill's action, and are never at the same reading. A group is killed only as the victim of
-/// an action of a ruleset that fires.
+/// of the first kill's action, and are never at the same reading. A group is killed only as the
+/// victim of an action of a ruleset that fires.
 pub fn law_kills()
     ensures apart { EndingsApart }
     ensures once { EndsOnce }

@@ -32,8 +32,9 @@ abbrev pub time_with : ℕ → ℕ → ℕ
 time_with time low = time / 2 ^ 59 * 2 ^ 59 + low
 
 -- The step at a record header whose type `kind` is 0 or at least 29. `byte` is the offset of the
--- header in the page, `amount` (ns) is the time difference, `after` are the bytes after the first
--- header word, and `more` is the second header word. Type 0: an event whose length (bytes) is
+-- header in the page, `time` (ns) is the time of the previous record, `amount` is the time
+-- difference (ns), or its lower 27 bits if the type is at least 30, `after` are the bytes after the
+-- first header word, and `more` is the second header word. Type 0: an event whose length (bytes) is
 -- `more`, including the second header word. Type 29: padding of `more` bytes, or the end of the
 -- page if `amount` is 0. Type 30: a long time difference, with `more` as its higher bits. Any other
 -- type: an absolute time.
@@ -45,9 +46,9 @@ long_step byte time kind amount more after =
     else Skips (time_with time (amount + more * 2 ^ 27)) (drop 4 after)
 
 -- The step at a record header with type `kind` and time difference `amount` (ns). `byte` is the
--- offset of the header in the page, and `after` are the bytes after the first header word. A type
--- from 1 to 28 is the length of an event in words of four bytes. `long_step` defines the other
--- types.
+-- offset of the header in the page, `time` (ns) is the time of the previous record, and `after` are
+-- the bytes after the first header word. A type from 1 to 28 is the length of an event in words of
+-- four bytes. `long_step` defines the other types.
 abbrev pub kind_step : ℕ → ℕ → ℕ → ℕ → List ℕ → Step
 kind_step byte time kind amount after =
     if nat_lt 0 kind && nat_lt kind 29 then Gives (record_at byte (wrapped (time + amount)) (take (4 * kind) after)) (drop (4 * kind) after)

@@ -4,7 +4,7 @@
 use psi_base::Text;
 use std::marker::Model;
 
-/// The number of bytes of a number in a record.
+/// The size of a number in a record, in bytes.
 #[derive(Clone, Copy, Debug, PartialEq, Eq)]
 pub enum Width {
     /// One byte.
@@ -46,7 +46,7 @@ pub struct StateLetter {
     pub letter: u8,
 }
 
-/// A list of fields. Contracts see it as a mathematical list.
+/// A list of fields. In contracts, it is the list of its fields.
 #[derive(Drop)]
 pub struct FieldList {
     fields: Vec<Field>,
@@ -79,7 +79,7 @@ impl FieldList {
     }
 }
 
-/// A list of letters of task states. Contracts see it as a mathematical list.
+/// A list of letters of task states. In contracts, it is the list of its letters.
 #[derive(Drop)]
 pub struct LetterList {
     letters: Vec<StateLetter>,
@@ -123,7 +123,7 @@ pub struct Kind {
     pub fields: FieldList,
 }
 
-/// A list of kinds of events. Contracts see it as a mathematical list.
+/// A list of kinds of events. In contracts, it is the list of its kinds.
 #[derive(Drop)]
 pub struct KindList {
     kinds: Vec<Kind>,

@@ -238,9 +238,9 @@ PlannedIsStall =
     → k ≤ length (changes_of cpu events) → last_change (plan_of cpu events) k ≤ at →
     planned_time state (plan_of cpu events) slot k at ≡ stall state cpu slot (until_change cpu events k) at
 
--- If time `at` (ns) is at or after the last event, a group's stall time on a processor up to `at` is
--- the stall time for the events up to the processor's last change, because later events touch only
--- other processors.
+-- If time `at` (ns) is at or after the last event, a group's stall time on a processor up to `at`
+-- is the stall time for the events up to the processor's last change, because later events touch
+-- only other processors.
 abbrev pub StallByOwnChanges : Type 0
 StallByOwnChanges =
     (limits : Limits) (events : List Event) → AreLegal limits first_world events → (state : State) (cpu slot at : ℕ)
@@ -310,8 +310,8 @@ KeptIsClock =
     → last_change plan k ≤ last_change plan (k + 1) →
     ((state : State) → holds_after state plan slot (k + 1) ≡ holds_after state plan slot k) → IsClock clock plan slot (k + 1)
 
--- If the counts of a plan fit (`FitsPlan`), each change turns a group's task counts into the counts
--- before it, minus what it subtracts from the group, plus what it adds to the group.
+-- If the counts of a plan fit (`FitsPlan`), a group's task counts after a change are its counts
+-- before the change, minus those that the change subtracts from the group, plus those that it adds.
 abbrev pub CountsByChange : Type 0
 CountsByChange = (plan : PlanView) → FitsPlan plan → (slot k : ℕ) (change : Change) → slice_get plan.changes k ≡ Some change →
     Follows (counts_after plan slot k) (on_chain plan.parents slot change.minus) (on_chain plan.parents slot change.plus)

@@ -32,7 +32,7 @@ file_line level averages total =
     ++ codes " total=" ++ decimal (total / 1000) ++ codes "\n"
 
 -- `state_line res level totals averages`: the line of the resource `res` at level `some` or `full`.
--- `totals` and `averages` have the totals (ns) and averages of all states.
+-- `totals` and `averages` have the totals (ns) and averages of all pressure quantities.
 abbrev pub state_line : Res → Level → List ℕ → List (List ℕ) → List ℕ
 state_line res level totals averages =
     file_line level (slice_index_or averages (state_number (state_of res level)) [])
@@ -45,15 +45,15 @@ is_cpu Memory = false
 is_cpu Cpu = true
 
 -- `full_line res is_root totals averages`: the `full` line of the resource `res`, from the totals
--- (ns) and averages of all states. For the CPU of the root group, all numbers are zero, as in the
--- kernel.
+-- (ns) and averages of all pressure quantities. For the CPU of the root group, all numbers are
+-- zero, as in the kernel.
 abbrev pub full_line : Res → Bool → List ℕ → List (List ℕ) → List ℕ
 full_line res is_root totals averages =
     if is_root && is_cpu res then file_line FullStalled [] 0 else state_line res FullStalled totals averages
 
 -- `file_text res is_root totals averages`: the text of the pressure file of the resource `res`: the
 -- `some` line and the `full` line. `is_root` is whether the group is the root. `totals` and
--- `averages` have the totals (ns) and averages of all states.
+-- `averages` have the totals (ns) and averages of all pressure quantities.
 unfoldable pub file_text : Res → Bool → List ℕ → List (List ℕ) → List ℕ
 file_text res is_root totals averages = state_line res SomeStalled totals averages ++ full_line res is_root totals averages
 

@@ -92,8 +92,8 @@ pub record LoadApproaches : Type 0 where
 abbrev pub AtMostHundred : Type 0
 AtMostHundred = (at : ℕ) (ticks : List (ℕ × List ℕ)) → HasTotals ticks → IsAverageState (averages_after at ticks)
 
--- If the stall time that isn't sampled yet is at least the covered time and no period was missed, an
--- update raises each average of the quantity toward 100 percent, but not above 100 percent.
+-- If the stall time that isn't sampled yet is at least the covered time and no period was missed,
+-- an update raises each average of the quantity toward 100 percent, but not above 100 percent.
 abbrev pub RisesWhenStalled : Type 0
 RisesWhenStalled = (old : AverageState) (now : ℕ) (totals : List ℕ) (place factor : ℕ) →
     IsAverageState old → length totals ≡ length pressure_places → place < length pressure_places → factor < 3 →

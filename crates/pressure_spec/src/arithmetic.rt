@@ -12,10 +12,10 @@ pub fn law_fixed_point()
     ensures load { LoadApproaches }
 {}
 
-/// The averages of a group never exceed 100 percent. An update raises an average if the stall time
-/// that isn't sampled yet fills the time that the update covers, and lowers it if there is no such
-/// stall time. An update samples at most the time that it covers, and leaves the remaining stall
-/// time to later updates.
+/// The averages of a group never exceed 100 percent. An update raises an average toward 100 percent
+/// if the stall time that isn't sampled yet fills the time that the update covers and no period was
+/// missed. It lowers the average if no unsampled stall time is left. An update samples at most the
+/// time that it covers, and leaves the remaining stall time to later updates.
 pub fn law_averages()
     ensures most { AtMostHundred }
     ensures rises { RisesWhenStalled }

@@ -30,8 +30,9 @@ pub fn law_change_shows()
 {}
 
 /// If a legal event doesn't affect a processor, it changes neither the counts nor the running task
-/// there, reports no interrupt time there, and turns no accounting on or off. An event affects the processor that it names. It
-/// also affects the processor of the task that it changes, both before and after the event.
+/// there, reports no interrupt time there, and turns no accounting on or off. An event affects the
+/// processor that it names. It also affects the processor of the task that it changes, both before
+/// and after the event.
 pub fn law_touched()
     ensures others { StaysUntouched }
     ensures own { TouchesItsOwn }

@@ -39,8 +39,8 @@ average_state_at trace timing i slot = group_averages trace.cpus (lives_of trace
 
 -- ---- laws of the reports
 
--- The reports of a tick can be computed slot by slot in any order of all slots that sorts them by
--- path.
+-- The reports of a tick can be computed slot by slot, if all slots are visited in the byte order of
+-- their paths. Slots with equal paths may be in any order.
 abbrev pub ReportsByOrder : Type 0
 ReportsByOrder = (limits : Limits) (trace : Trace) (timing : Timing) (i : ℕ) (order : List ℕ) →
     AreLegal limits first_world trace.events → IsPathOrder (lives_of trace) order →

@@ -20,8 +20,8 @@ pub fn law_one_tick_more()
     ensures text { TextMore }
 {}
 
-/// The reports of a tick can be computed slot by slot in any order of all slots that sorts them by
-/// path.
+/// The reports of a tick can be computed slot by slot, if all slots are visited in the byte order
+/// of their paths. Slots with equal paths may be in any order.
 pub fn law_reports()
     ensures { ReportsByOrder }
 {}

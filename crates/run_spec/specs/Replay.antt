@@ -97,18 +97,21 @@ kills_until trace timing rules count = sum_by (λ i. length (kills_in trace timi
 
 -- ---- reports of pressure
 
--- `resource_files at path slot totals averages`: the reports on the resources of a group at the
--- time `at` (ns). `totals` and `averages` are the group's totals (ns) and averages.
+-- `resource_files at path slot totals averages`: the reports on the resources of the group with the
+-- path `path` and the slot `slot` (0 for the root) at time `at` (ns). `totals` and `averages` are
+-- the group's totals (ns) and averages.
 abbrev pub resource_files : ℕ → List ℕ → ℕ → List ℕ → List (List ℕ) → List ℕ
 resource_files at path slot totals averages = flat_map (λ res. report_text at path res (slot == 0) totals averages) resources
 
--- `irq_files version at path totals averages`: the report on the interrupts of a group at time `at`
--- (ns), for a trace of version 2. The report is empty for version 1, which has no interrupts.
+-- `irq_files version at path totals averages`: the report on the interrupts of the group with the
+-- path `path` at time `at` (ns), for a trace of version 2. The report is empty for version 1, which
+-- has no interrupts. `totals` and `averages` are the group's totals (ns) and averages.
 abbrev pub irq_files : Version → ℕ → List ℕ → List ℕ → List (List ℕ) → List ℕ
 irq_files One at path totals averages = []
 irq_files Two at path totals averages = irq_report at path (slice_index_or averages irq_quantity []) (slice_index totals irq_quantity)
 
--- `files_text version at path slot totals averages`: all reports on a group at time `at` (ns).
+-- `files_text version at path slot totals averages`: all reports on the group with the path `path`
+-- and the slot `slot` (0 for the root) at time `at` (ns), for a trace of the version `version`.
 -- There is one for each resource, and for version 2 one for interrupts. `totals` and `averages` are
 -- the group's totals (ns) and averages.
 abbrev pub files_text : Version → ℕ → List ℕ → ℕ → List ℕ → List (List ℕ) → List ℕ

@@ -83,8 +83,8 @@ cause_name cause.IrqTooLong = codes "IrqTooLong"
 cause_name cause.RootPressure = codes "RootPressure"
 cause_name cause.TooManyPressures = codes "TooManyPressures"
 
--- `field_number cause`: the number (from 1) of the malformed field of a line that a cause reports,
--- or `None` if the cause reports no field.
+-- `field_number cause`: the number (from 1) of the malformed, missing or superfluous field that a
+-- cause reports, or `None` if the cause reports no field.
 abbrev pub field_number : Cause → Option ℕ
 field_number (cause.BadField field) = Some field
 field_number _ = None
@@ -95,7 +95,7 @@ field_text None = []
 field_text (Some field) = codes " " ++ decimal field
 
 -- `cause_text why`: the printed text of the cause `why`. It is the cause's name, followed by the
--- number of the malformed field, if any.
+-- number of the field (`field_number`), if the cause reports one.
 abbrev pub cause_text : Cause → List ℕ
 cause_text why = cause_name why ++ field_text (field_number why)
 

@@ -22,8 +22,8 @@ kills_by trace timing rules count = flat_map (kills_in trace timing rules) (rang
 abbrev pub all_kills : Trace → Timing → List Rule → List Kill
 all_kills trace timing rules = kills_by trace timing rules (tick_count trace timing)
 
--- `without_kill trace kill`: the trace without the tasks of the killed group from the time of the
--- kill. The trace is unchanged if `kill` is `None`.
+-- `without_kill trace kill`: the trace in which the tasks of the killed group and of its
+-- descendants exit right after the time of the kill. The trace is unchanged if `kill` is `None`.
 abbrev pub without_kill : Trace → Option Kill → Trace
 without_kill trace None = trace
 without_kill trace (Some kill) = trace_without trace kill.at kill.victim.0

@@ -13,8 +13,8 @@ pub fn law_event_lines()
     ensures apart { SpelledApart }
 {}
 
-/// Laws of header lines. A line is accepted if and only if it is the header of an allowed version of
-/// the trace format with 1 to 64 processors. The text of a header is a valid line.
+/// Laws of header lines. A line is accepted if and only if it is the header of an allowed version
+/// of the trace format with 1 to 64 processors. The text of a header is a valid line.
 pub fn law_header_lines()
     ensures reads { HeadersSpelled }
     ensures in_line { HeadedByLine }
