@@ -2,7 +2,7 @@
 -- increase.
 use Rattle.std.specs.Prelude.{◌≡◌, ◌⊎◌, ℕ, ◌+◌, List, [], ◌∷◌, Bool, true, false, Option, None, Some, Result, Ok, Err}
 use Rattle.std.specs.Io.KnownBytes.{Appends, Keeps}
-use Rattle.outside.specs.Outside.{AppendsPrefix, Files, Increased, ShelfCounts, content_of, counts_of}
+use Rattle.outside.specs.Outside.{AppendsPrefix, Files, Increased, IsAbsent, ShelfCounts, content_of, counts_of}
 use Rattle.outside.specs.Reads.{ReadCall, ReadsFile}
 use Rattle.outside.specs.declared.shelf.ShelfFault.{ShelfFault}
 use Rattle.outside.specs.declared.shelf.ShelfFault.TheVariants as shelf
@@ -104,6 +104,12 @@ pub record FailuresAreCounted (before now : RunCounts) (result : Status) : Type 
 abbrev pub IsMissing : Option Files → ℕ → List (List ℕ) → ℕ → Type 0
 IsMissing files number [] file = ⊥
 IsMissing files number (name ∷ names) file = ((file ≡ number) × (content_of files name ≡ None)) ⊎ IsMissing files (number + 1) names file
+
+-- `LacksFile files names`: the contents of the shelf are known, and at least one of the files
+-- `names` doesn't exist.
+abbrev pub LacksFile : Option Files → List (List ℕ) → Type 0
+LacksFile files [] = ⊥
+LacksFile files (name ∷ names) = IsAbsent files name ⊎ LacksFile files names
 
 -- ---- reads
 

@@ -5,7 +5,7 @@ ghost use Rattle.std.specs.Io.KnownBytes.{Appends, Keeps};
 ghost use Rattle.std.specs.List.{list_all};
 ghost use Rattle.outside.specs.Outside.{AppendsPrefix, Increased, content_of};
 ghost use Rattle.convert_core.specs.Convert.{are_names, contents_of, convert_of, is_command, is_name};
-ghost use Rattle.convert_core.specs.Runs.{Converts, FailuresAreCounted, IsMissing, ReadsInOrder, counts_of_run, shelf_fault_in};
+ghost use Rattle.convert_core.specs.Runs.{Converts, FailuresAreCounted, IsMissing, LacksFile, ReadsInOrder, counts_of_run, shelf_fault_in};
 ghost use Rattle.convert_core.specs.Status.{status_text};
 
 use crate::events::convert;
@@ -63,6 +63,8 @@ fn run_names<S: Shelf, K: Sink>(
         (S.reads shelf.new) (shelf_fault_in result) }
     ensures missed { (file : ℕ) → result ≡ Status.NoFile file →
         IsMissing (S.holds shelf.old) 0 (map string_bytes names.now) file }
+    ensures lacking { LacksFile (S.holds shelf.old) (map string_bytes names.now) →
+        result ≢ Status.Done }
 {
     let [table, pages @ ..] = names else {
         unreachable!()
@@ -97,6 +99,9 @@ fn run_words<S: Shelf, K: Sink>(
     ensures missed { (names : List (List ℕ)) (file : ℕ) →
         map string_bytes words.now ≡ codes "events" ∷ names → result ≡ Status.NoFile file →
         IsMissing (S.holds shelf.old) 0 names file }
+    ensures lacking { (names : List (List ℕ)) →
+        map string_bytes words.now ≡ codes "events" ∷ names →
+        LacksFile (S.holds shelf.old) names → result ≢ Status.Done }
 {
     let [first, names @ ..] = words else {
         return Status::Usage;
@@ -156,6 +161,11 @@ pub fn run<S: Shelf, K: Sink, N: Sink>(
     ensures missed { (names : List (List ℕ)) (file : ℕ) →
         map string_bytes words.now ≡ codes "events" ∷ names → result ≡ Status.NoFile file →
         IsMissing (S.holds shelf.old) 0 names file }
+
+    // If the files are known and one of them doesn't exist, the result isn't Done.
+    ensures lacking { (names : List (List ℕ)) →
+        map string_bytes words.now ≡ codes "events" ∷ names →
+        LacksFile (S.holds shelf.old) names → result ≢ Status.Done }
 
     // The message of the status was appended to `note`: the whole message if no write to `note`
     // failed, and a prefix of it in any case.

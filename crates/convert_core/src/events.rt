@@ -3,7 +3,7 @@
 ghost use Rattle.std.specs.Prelude.{◌≡◌, ◌≢◌, ◌+◌, ◌≤◌, ◌∷◌, [], ℕ, List, IfOk, Some, Ok, length, map, string_bytes};
 ghost use Rattle.outside.specs.Outside.{content_of};
 ghost use Rattle.convert_core.specs.Convert.{contents_of, convert_of, files_output};
-ghost use Rattle.convert_core.specs.Runs.{Converts, FailuresAreCounted, IsMissing, PutsOutput, ReadsInOrder, counts_of_run, ends_whole, refused_status, shelf_fault_in, table_status};
+ghost use Rattle.convert_core.specs.Runs.{Converts, FailuresAreCounted, IsMissing, LacksFile, PutsOutput, ReadsInOrder, counts_of_run, ends_whole, refused_status, shelf_fault_in, table_status};
 
 use crate::files::put_files;
 use crate::status::Status;
@@ -62,6 +62,8 @@ fn put_buffered<S: Shelf, K: Sink>(
         (S.reads shelf.new) (shelf_fault_in result) }
     ensures missed { (file : ℕ) → result ≡ Status.NoFile file →
         IsMissing (S.holds shelf.old) 1 (map string_bytes names.now) file }
+    ensures lacking { LacksFile (S.holds shelf.old) (map string_bytes names.now) →
+        result ≢ Status.Done }
 {
     let mut buffered = BufferedSink::new(out, pending);
     let status = put_files(shelf, layout, 0, names, page, &mut buffered);
@@ -97,6 +99,8 @@ fn put_events<S: Shelf, K: Sink>(
         (S.reads shelf.new) (shelf_fault_in result) }
     ensures missed { (file : ℕ) → result ≡ Status.NoFile file →
         IsMissing (S.holds shelf.old) 1 (map string_bytes names.now) file }
+    ensures lacking { LacksFile (S.holds shelf.old) (map string_bytes names.now) →
+        result ≢ Status.Done }
 {
     let mut page = match page_memory(alloc, layout.page as usize) {
         Ok(page) => page,
@@ -113,6 +117,7 @@ fn put_events<S: Shelf, K: Sink>(
 fn table_status(fault: FileFault) -> Status
     ensures exact { result ≡ table_status fault }
     ensures command { result ≢ Status.Usage }
+    ensures failed { result ≢ Status.Done }
 {
     match fault {
         FileFault::NoFile => Status::NoFile { file: 0 },
@@ -125,6 +130,7 @@ fn table_status(fault: FileFault) -> Status
 fn refused_status(fault: Fault<TableFault>) -> Status
     ensures exact { result ≡ refused_status fault }
     ensures command { result ≢ Status.Usage }
+    ensures failed { result ≢ Status.Done }
 {
     match fault {
         Fault::Refused(fault) => Status::Table(fault),
@@ -154,6 +160,8 @@ pub(crate) fn convert<S: Shelf, K: Sink>(
         (S.reads shelf.new) (shelf_fault_in result) }
     ensures missed { (file : ℕ) → result ≡ Status.NoFile file →
         IsMissing (S.holds shelf.old) 0 (table.now ∷ map string_bytes names.now) file }
+    ensures lacking { LacksFile (S.holds shelf.old) (table.now ∷ map string_bytes names.now) →
+        result ≢ Status.Done }
 {
     let bytes = match read_prefix(alloc, shelf, table, MOST_OF_TABLE) {
         Ok(bytes) => bytes,

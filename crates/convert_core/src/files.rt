@@ -2,7 +2,7 @@
 ghost use Rattle.std.specs.Prelude.{◌≡◌, ◌≢◌, ◌+◌, ◌≤◌, ℕ, List, Some, length, map, string_bytes};
 ghost use Rattle.outside.specs.Outside.{SameInner};
 ghost use Rattle.convert_core.specs.Convert.{contents_of, files_output};
-ghost use Rattle.convert_core.specs.Runs.{FailuresAreCounted, IsMissing, PutsOutput, ReadsInOrder, counts_of_run, shelf_fault_in, status_at};
+ghost use Rattle.convert_core.specs.Runs.{FailuresAreCounted, IsMissing, LacksFile, PutsOutput, ReadsInOrder, counts_of_run, shelf_fault_in, status_at};
 
 use crate::status::Status;
 use outside::{Shelf, Sink};
@@ -14,6 +14,7 @@ fn status_at(cpu: u32, stop: FileStop) -> Status
     requires { cpu + 1 ≤ 4096 }
     ensures exact { result ≡ status_at cpu stop }
     ensures command { result ≢ Status.Usage }
+    ensures failed { result ≢ Status.Done }
 {
     match stop {
         FileStop::NoFile => Status::NoFile { file: cpu + 1 },
@@ -56,6 +57,8 @@ pub(crate) fn put_files<S: Shelf, K: Sink>(
         (S.reads shelf.new) (shelf_fault_in result) }
     ensures missed { (file : ℕ) → result ≡ Status.NoFile file →
         IsMissing (S.holds shelf.old) (cpu + 1) (map string_bytes names.now) file }
+    ensures lacking { LacksFile (S.holds shelf.old) (map string_bytes names.now) →
+        result ≢ Status.Done }
 {
     let [first, rest @ ..] = names else {
         return Status::Done;

@@ -5,7 +5,7 @@ use Rattle.std.specs.Io.KnownBytes.{Appends, Keeps}
 use Rattle.outside.specs.Outside.{AppendsPrefix, Files, Increased, content_of}
 use Rattle.outside.specs.Reads.{ReadCall}
 use Rattle.convert_core.specs.Convert.{contents_of, convert_of, is_command}
-use Rattle.convert_core.specs.Runs.{Converts, FailuresAreCounted, IsMissing, ReadsInOrder, RunCounts, shelf_fault_in}
+use Rattle.convert_core.specs.Runs.{Converts, FailuresAreCounted, IsMissing, LacksFile, ReadsInOrder, RunCounts, shelf_fault_in}
 use Rattle.convert_core.specs.Status.{code_of, status_text}
 use Rattle.convert_core.specs.declared.status.Status.{Status}
 use Rattle.convert_core.specs.declared.status.Status.TheVariants as status
@@ -31,8 +31,8 @@ run_reads log log_now = record { log = log; log_now = log_now }
 -- A run of the command line `words` ended with the status `ended`. If the contents of the files are
 -- known, the output and the status are those that `convert_of` defines. Each failure that the
 -- status reports was counted, and the files were read in order. If the status is NoFile, the file
--- that it names is missing. The status is Usage exactly if the words aren't a command; then the run
--- read and wrote nothing.
+-- that it names is missing; if a file is missing, the status isn't Done. The status is Usage exactly
+-- if the words aren't a command; then the run read and wrote nothing.
 pub record RanAs (words : List (List ℕ)) (ended : Status) (files : Option Files) (before now : RunCounts) (reads : RunReads)
     (old new : Option (List ℕ)) : Type 0 where
   pub converts : (table : List ℕ) (pages : List (List ℕ)) (bytes : List ℕ) (wholes : List (List ℕ)) → is_command words ≡ true
@@ -43,6 +43,7 @@ pub record RanAs (words : List (List ℕ)) (ended : Status) (files : Option File
       → ReadsInOrder names reads.log reads.log_now (shelf_fault_in ended)
   pub missed : (names : List (List ℕ)) (file : ℕ) → words ≡ codes "events" ∷ names → ended ≡ status.NoFile file
       → IsMissing files 0 names file
+  pub lacking : (names : List (List ℕ)) → words ≡ codes "events" ∷ names → LacksFile files names → ¬ (ended ≡ status.Done)
   pub unknown : is_command words ≡ false → ended ≡ status.Usage
   pub usage : ended ≡ status.Usage → is_command words ≡ false
   pub quiet : ended ≡ status.Usage → Keeps old new

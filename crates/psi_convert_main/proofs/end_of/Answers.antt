@@ -7,6 +7,7 @@ returns-in-Ok-clause-words g c =
     let converts = rw c.deref.ensures.value at c.run.ensures.events in
     let order = rw c.deref.ensures.value at c.run.ensures.order in
     let missed = rw c.deref.ensures.value at c.run.ensures.missed in
+    let lacking = rw c.deref.ensures.value at c.run.ensures.lacking in
     let unknown = rw c.deref.ensures.value at c.run.ensures.unknown in
     let usage = rw c.deref.ensures.value at c.run.ensures.usage in
     rw c.in-Ok.is (
@@ -17,6 +18,7 @@ returns-in-Ok-clause-words g c =
         counts = c.run.ensures.counts;
         order = order;
         missed = missed;
+        lacking = lacking;
         unknown = unknown;
         usage = usage;
         quiet = c.run.ensures.quiet;
