@@ -83,7 +83,7 @@ class Walk(World[Task]):
         self.next_cut = self.stretches.next_cut()
 
     def play_end(self) -> None:
-        """Ends all time spans of the sums at the end of the trace."""
+        """Ends the remaining time spans at the end of the trace."""
         for cut in self.stretches.cuts:
             self.cut(cut)
         self.cut(self.now)

@@ -45,8 +45,8 @@ def round_steps() -> Iterator[int]:
 
 
 def share_step(most: int) -> int:
-    """Returns the smallest round step, in hundredths of a percent, with which five steps reach
-    `most`.
+    """Returns the smallest round step with which five steps reach `most`. Both are in hundredths of
+    a percent.
     """
     return next(step for step in round_steps() if 5 * step >= most)
 
@@ -97,7 +97,7 @@ class TimeAxis:
         return self.start <= time_ns <= self.end
 
     def marks(self) -> Iterator[Mark]:
-        """Yields the labelled times of the axis."""
+        """Yields the labeled times of the axis."""
         for time_ns in range(-(-self.start // self.step) * self.step, self.end + 1, self.step):
             yield Mark(
                 time_ns,
@@ -115,7 +115,7 @@ class TimeAxis:
 
 
 class WallAxis(TimeAxis):
-    """A time axis that is labelled with the time of day. `wall` is the time of day at the start of
+    """A time axis that is labeled with the time of day. `wall` is the time of day at the start of
     the trace.
     """
 
@@ -175,5 +175,5 @@ class WallAxis(TimeAxis):
 
 
 def time_axis(start: int, end: int, wall: Optional[WallTime]) -> TimeAxis:
-    """Returns an axis labelled with the time of day, or with the trace's time if `wall` is None."""
+    """Returns an axis labeled with the time of day, or with the trace's time if `wall` is None."""
     return WallAxis(start, end, wall) if wall else TimeAxis(start, end)

@@ -106,8 +106,9 @@ def marks_of(events: Iterable[Event], x_of: Callable[[int], float]) -> list[Mark
 
 
 def place_all(marks: list[Mark], length: int, are_kills_first: bool) -> list[Mark]:
-    """Places the label with the index `length` of each line, from the last line to the first.
-    Returns the lines that remain without a label.
+    """Places the label with the index `length` of each line, from the last line to the first. If
+    `are_kills_first`, the lines of kills come before all others. Returns the lines that remain
+    without a label.
     """
     for mark in marks:
         mark.row = None

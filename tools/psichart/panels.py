@@ -29,8 +29,8 @@ from .svg import (
 )
 from .thresholds import Threshold, draw_thresholds
 
-# The smallest scale of a panel: 1 % (in hundredths of a percent) or 1 MiB (in bytes). It prevents
-# tiny values from looking large.
+# The smallest value at the upper edge of a panel: 1 % (in hundredths of a percent) or 1 MiB (in
+# bytes). It prevents tiny values from looking large.
 LEAST_SHARE = 100
 LEAST_BYTES = 1024**2
 # The time after which an average that began at 0 is meaningful, in multiples of the average's

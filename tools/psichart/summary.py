@@ -16,8 +16,8 @@ from .replay import Replay
 
 class Summary(NamedTuple):
     """The contents of a psitrace report: the time of day at which the trace began, the trace's time
-    (ns) at which the recording begins, the trace's length (ns, rounded to ms), and its SHA-256. A
-    field is None if the report doesn't contain it.
+    (ns) at which the recording begins, the trace's length (ns, rounded to ms), and its SHA-256. If
+    the report doesn't contain a value, `begins` is 0, and any other field is None.
     """
 
     name: str

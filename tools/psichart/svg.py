@@ -20,8 +20,8 @@ LETTER = 7.2
 NAME_LETTER = 7.8
 TITLE_LETTER = 9.6
 
-# The colours of Okabe and Ito, which colour-blind people can distinguish. Some are darker or
-# lighter here because of the background.
+# The colors of Okabe and Ito, which color-blind people can distinguish. Some are darker or lighter
+# here because of the background.
 STYLE = """
 text { font: 12px sans-serif; fill: #222; }
 .title { font-size: 16px; font-weight: bold; }

@@ -40,13 +40,13 @@ def resource(text: str, _: Host) -> str:
 
 
 def memory_size(text: str, host: Host) -> int:
-    """Parses a size in bytes. A percentage refers to MemTotal."""
+    """Parses a size, and returns bytes. A percentage refers to MemTotal."""
     return size(text, host.memory // KIB * KIB)
 
 
 def swap_size(text: str, host: Host) -> int:
-    """Parses a size in bytes. A percentage refers to SwapTotal, which oomd stores as a 32-bit
-    number.
+    """Parses a size, and returns bytes. A percentage refers to SwapTotal, which oomd stores as a
+    32-bit number.
     """
     return size(text, signed32(host.swap // KIB * KIB))
 

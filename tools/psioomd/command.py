@@ -260,9 +260,9 @@ def run_of(options: argparse.Namespace, trace: str) -> Run:
 
 
 def try_emulation(program: Program, run: Run, has_binary: bool) -> Engine | None:
-    """Runs the emulation. If the emulation rejects the configuration, raises Refused. If oomd
-    itself runs too, it decides whether the configuration is valid, so here the rejection is only
-    printed.
+    """Runs the emulation. If the emulation rejects the configuration, raises Refused. With
+    `has_binary`, it prints the rejection instead and returns None, since oomd itself then decides
+    whether the configuration is valid.
     """
     try:
         return emulate(program, run, processors())

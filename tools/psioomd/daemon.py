@@ -49,7 +49,9 @@ def clock_library() -> bytes:
 
 
 class Daemon:
-    """A process in a sandbox, with the clock library preloaded."""
+    """A process in a sandbox, with the clock library preloaded. `uptime` is the machine's uptime
+    (ns), and `patience` the longest time (s) to wait for a message.
+    """
 
     def __init__(self, sandbox: Sandbox, words: list[str], uptime: int, patience: float) -> None:
         self.sandbox, self.patience = sandbox, patience

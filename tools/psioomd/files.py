@@ -99,8 +99,8 @@ class Files:
             self.write(os.path.join(folder, name), text)
 
     def fixed(self, path: str) -> dict[str, str]:
-        """Returns the text of each file of a group that never changes. The list of processes is
-        empty.
+        """Returns the text of those files of a group that never change, by name. The list of
+        processes, cgroup.procs, is empty.
         """
         extras = self.machine.extras
         dying = extras.of(path, "nr_dying_descendants")
@@ -110,7 +110,7 @@ class Files:
         return {**found, **FIXED, **{name: f"{extras.of(path, name)}\n" for name in NUMBERS}}
 
     def update_group(self, path: str) -> None:
-        """Writes the files of a group whose text can change."""
+        """Writes those files of a group that can change."""
         folder, sample = self.folder(path), self.machine.sample(path)
         stat = f"anon {sample.memory}\nfile 0\npgscan {sample.scanned}\npgsteal 0\n"
         self.write(os.path.join(folder, "memory.stat"), stat)

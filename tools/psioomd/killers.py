@@ -113,7 +113,7 @@ class BySwap(Killer):
 
 class ByPressure(Killer):
     """The plugin `kill_by_pressure`. It ranks groups by the mean of avg10 and avg60 in whole
-    percent, including 0.
+    percent. Groups with the mean 0 are ranked, too.
     """
 
     def ranks(self, look: Look, paths: list[str]) -> Ranked:

@@ -1,4 +1,4 @@
-"""Matches paths of control groups against oomd's patterns. oomd passes a pattern to glob(3) with
+"""Matches control-group paths against oomd's patterns. oomd passes each pattern to glob(3) with
 GLOB_BRACE, relative to the mount point of the cgroup file system.
 """
 from __future__ import annotations

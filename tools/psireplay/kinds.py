@@ -1,4 +1,4 @@
-"""Recognises what kind of file an operator passed, so that a message can name the kind and give
+"""Recognizes what kind of file an operator passed, so that a message can name the kind and give
 advice.
 """
 from __future__ import annotations
@@ -9,7 +9,7 @@ from typing import Callable, NamedTuple, Optional
 
 from psirec.meta import is_recording
 
-# The number of bytes, from the start of a file, by which its kind is recognised.
+# The number of bytes, from the start of a file, by which its kind is recognized.
 HEAD = 4096
 TRACE, RULES, REPLAY, JSON = (
     "a trace",
@@ -36,7 +36,7 @@ def has(pattern: bytes) -> Callable[[bytes], bool]:
     return lambda head: re.match(pattern, head) is not None
 
 
-# Each test of a file's first bytes, with the kind of file that it recognises. The first successful
+# Each test of a file's first bytes, with the kind of file that it recognizes. The first successful
 # test counts.
 KINDS: tuple[tuple[Callable[[bytes], bool], Kind], ...] = (
     (lambda head: not head, Kind("empty")),

@@ -1,6 +1,6 @@
-"""Runs psi_oomd for tools and tests: the program that the variable PSI_OOMD names, or the launcher
-in the folder above the tools if that isn't set. In a checkout the launcher builds the program. In
-an installed package the program lies next to the launcher.
+"""Runs psi_oomd for tools and tests: the program that the variable PSI_OOMD names or, if the
+variable isn't set, the launcher in the folder above the tools. In a checkout the launcher builds
+the program. In an installed package the program lies next to the launcher.
 """
 from __future__ import annotations
 

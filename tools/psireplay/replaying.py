@@ -22,7 +22,8 @@ TRACE_HELP = (
     "a trace, which is replayed; without it the output of psi_oomd replay or whatif is read from"
     " standard input"
 )
-# The options of `psi_oomd replay` that tools also have, keyed by the names of their values.
+# The options of `psi_oomd replay` that tools also have, keyed by the options' names in `values`, a
+# tool's parsed arguments.
 OPTIONS = {"tick_ms": "--tick-ms", "report_s": "--report-s", "interval_s": "--interval-s"}
 REFUSED = (ProgramStatus.TRACE_REFUSED, ProgramStatus.RULES_REFUSED)
 # The exit statuses of a replay that succeeded, or that a tool stopped by closing its output pipe.

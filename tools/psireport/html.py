@@ -44,8 +44,8 @@ def table(
     rows: Iterable[Iterable[str]],
     named: int = 1,
 ) -> Element:
-    """Adds a table in a scrollable box, and returns it. The first cells of each row are texts, and
-    the others are numbers.
+    """Adds a table in a scrollable box, and returns it. The first `named` cells of each row are
+    texts, and the others are numbers.
     """
     box = add(parent, "div", class_="wide", tabindex="0", role="region", aria_label=caption)
     found = add(box, "table")

@@ -26,13 +26,13 @@ WHOLE = 10_000
 # The space (pixels) above a picture's name, for the labels of kills, and below its panel, for the
 # times.
 TOP, BOTTOM = 8, 22
-# The largest number of characters in a picture's name. It fits on a phone, whose letters are twice
-# as large. The name of a memory picture is shorter, since a legend follows it.
+# The largest number of characters in a picture's name. A name of this length fits on a phone, where
+# letters are twice as large. The name of a memory picture is shorter, since a legend follows it.
 LONGEST, LONGEST_OF_MEMORY = 60, 42
 # The height (pixels) of the space for events of triggers, below the curves of a picture.
 EVENTS = 16
-# The width and the height of a strip, in units of its SVG. The strip is scaled to the width of the
-# page.
+# The width and the height of a strip in its own SVG units. The page stretches each strip to the
+# page's width.
 STRIP, STRIP_HEIGHT = 1000, 12
 
 
@@ -99,8 +99,8 @@ class Figure(Chart):
         return f"scale to {decimal(self.most() / 100)} %"
 
     def has_events(self) -> bool:
-        """Returns whether some picture shows events of triggers. The question concerns all
-        pictures, since they share one legend.
+        """Returns whether any picture of the report shows events of triggers, since all pictures
+        share one legend.
         """
         return any(self.replay.events.values())
 
@@ -224,9 +224,10 @@ class Album:
 def strip(
     what: str, axis: TimeAxis, evaluations: list[int], kinds: dict[str, list[int]], marks: list[int]
 ) -> Element:
-    """Draws a strip that shows when conditions were true. `kinds` contains the times of the
-    evaluations at which each kind of condition was true. Each rectangle extends from the first such
-    evaluation to the evaluation after the last. `marks` are the times (ns) of vertical lines.
+    """Draws a strip that shows when conditions were true. `evaluations` are the times (ns) of all
+    evaluations, and `kinds` has those at which each kind of condition was true. Each rectangle
+    extends from the first such evaluation to the evaluation after the last. `marks` are the times
+    (ns) of vertical lines.
     """
     said = "; ".join(
         spans_text(spans(times_ns, evaluations)) for times_ns in list(kinds.values())[-1:]

@@ -11,8 +11,8 @@ from psireplay.lines import AVERAGES, LEVELS, Kill, Report, read
 
 # The share, in hundredths of a percent, below which a group doesn't count as stalled.
 LEAST = 100
-# The number of groups that are drawn for each resource, and the number of equal parts of the time.
-# A reduced series contains the highest values of each part.
+# The number of groups that are drawn for each resource, and the number of equal parts into which a
+# series is divided by time. A reduced series contains the highest values of each part.
 DRAWN = 3
 STRETCHES = 300
 

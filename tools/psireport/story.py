@@ -50,7 +50,7 @@ class Stretch(NamedTuple):
 class After(NamedTuple):
     """The subject's pressure some time after a kill: the time (ns), the recorded share, and the
     highest possible share without the victim (hundredths of a percent). `was_over` says that the
-    recorded share only fell after the kill.
+    recorded share never rose between the kill and that time.
     """
 
     time_ns: int

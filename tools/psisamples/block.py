@@ -4,10 +4,12 @@ stall times: some and full of IO, memory and CPU.
 The times (ns) are in the order of LEVELS. A block needs at most four tasks, one of each kind: `w`
 waits for IO, `s` sleeps in a memory stall, `o` is ready, and `r` runs. A block has three parts. In
 the first no task is ready. In the second `o` is ready and no task runs. In the third `r` runs until
-the end of the block, so that the weight of the block is a whole number of ms.
+the end of the block, so that the length of the block, which is also its weight, is a whole number
+of ms.
 
-A letter is the state of a task: `w` waits for IO, `s` sleeps in a memory stall, `r` and `R` are
-ready, `x` and `X` run, and `z` sleeps. A task in a state `R` or `X` is in a memory stall, too.
+A letter stands for the state of a task: in `w` it waits for IO, in `s` it sleeps in a memory stall,
+in `r` and `R` it is ready, in `x` and `X` it runs, and in `z` it sleeps. In `R` and `X` the task is
+also in a memory stall.
 """
 from __future__ import annotations
 

@@ -30,10 +30,11 @@ LEAST = TICK // 100
 SMALL = 500
 # If a total differs from the sample by at most this (us), the difference isn't reported.
 NEAR = 2
-# Between two readings, a memory sample is written only if the size changed by more than 1/PARTS.
+# Between readings, a memory sample is written only after scans or a change over 1/PARTS.
 PARTS = 20
 NEVER = 2**62
-# The first word of an internal line `tasks NUMBER`, which marks where a group's tasks are created.
+# The first word of an internal line `tasks NUMBER`, which marks where the tasks of group NUMBER are
+# created.
 TASKS = "tasks"
 
 
@@ -81,7 +82,7 @@ class Conversion:
     # ---------------------------------------------------------------- creating and removing groups
 
     def change_groups(self) -> list[str]:
-        """Removes and creates groups after the previous tick. Returns lines without times."""
+        """Removes and creates groups after the previous tick. Returns the lines, without times."""
         self.lives.read_until((self.tick + 1) * TICK)
         ends = [it for it in self.order if it.end_tick is not None and it.end_tick <= self.tick]
         begins = [it for it in self.lives.born if it.tick <= self.tick]
@@ -98,7 +99,7 @@ class Conversion:
         return lines
 
     def remove(self, ends: list[Life], lines: list[str]) -> list[Life]:
-        """Removes groups and descendants. Returns new groups for descendants with more samples."""
+        """Removes `ends` and their descendants. Returns groups that continue the descendants."""
         removed = {it.path for it in ends}
         again: list[Life] = []
         for life in sorted(self.order, key=lambda it: -it.path.count("/")):
@@ -316,7 +317,7 @@ class Conversion:
     # ---------------------------------------------------------------- memory samples
 
     def put_memory(self, time: int, out: list[str]) -> None:
-        """Writes memory samples: at each reading, and in between if a size changed much."""
+        """Writes memory samples: at readings, and in between after large changes or scans."""
         host = self.lives.host
         at = self.tick * TICK
         is_first = self.tick == 0
@@ -330,7 +331,7 @@ class Conversion:
                 self.put_sample(life, at, time, out)
 
     def put_sample(self, life: Life, at: int, time: int, out: list[str]) -> None:
-        """Writes a group's memory sample, unless it is almost equal to the previous one."""
+        """Appends the memory of a group at `at` (ns), unless the last sample is almost equal."""
         found, is_reading = between_samples(life.memory, at)
         last = self.written.get(life.path)
         if last is None or not is_same(found, last) and (
@@ -367,8 +368,8 @@ def is_same(found: Memory, last: Memory) -> bool:
 
 
 def next_due(samples: deque[Memory], last: Memory) -> int:
-    """Returns the time (ns) of the next sample if its size is similar to that of `last`, and no
-    page is scanned until then. Returns 0 if not: the next memory sample is due at once.
+    """Returns the time (ns) of the next sample, or NEVER if there is none. Returns 0, which means
+    at once, if pages are scanned until then, or if the memory in use differs much from `last`.
     """
     if len(samples) < 2:
         return NEVER
@@ -381,8 +382,8 @@ def next_due(samples: deque[Memory], last: Memory) -> int:
 
 def bounded(growth: int, owed: int) -> int:
     """Returns the growth (ns) of a level in a tick, corrected by `owed` (ns). `owed` is negative if
-    the trace's total is too high. The result is at most a tick, and at least half of `growth`. With
-    less growth, an ancestor would need more and more weight.
+    the trace's total is too high. The correction raises the growth to at most a tick, and lowers it
+    to at least half: with less, an ancestor would need more and more weight.
     """
     if -SMALL < owed < SMALL:
         return growth
@@ -392,7 +393,7 @@ def bounded(growth: int, owed: int) -> int:
 
 
 def goes_on(life: Life, tick: int) -> Life:
-    """Returns a new group that continues `life`, after an ancestor was created again."""
+    """Returns a new group that continues `life` from `tick` on, after an ancestor was removed."""
     again = Life(life.path, tick, life.is_sampled)
     again.knots, again.memory, again.last = life.knots, life.memory, life.last
     again.shift, again.end_tick = life.shift, life.end_tick

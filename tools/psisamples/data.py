@@ -41,7 +41,9 @@ class Data:
         return self.only(self.inputs.store.since(time))
 
     def only(self, rows: Iterator[Plain]) -> Iterator[Plain]:
-        """Yields the rows, but uses only one source for the samples of the root."""
+        """Yields the rows. The root's rows from cAdvisor (SECOND_ROOT) become rows of ROOT, or are
+        dropped if node_exporter has samples of the root.
+        """
         for row in rows:
             if row[1] != SECOND_ROOT:
                 yield row

@@ -49,7 +49,7 @@ def open_text(name: str) -> TextIO:
 class Naming(NamedTuple):
     """The options for the names of groups. `renamed` has the new path for each renamed group; its
     descendants are renamed too. `depth` is the largest number of components of a path. `labels` has
-    the labels whose values form the path of a series without a label `id`.
+    the labels whose values form a series' path. If it is empty, the label `id` has the path.
     """
 
     renamed: dict[str, str]

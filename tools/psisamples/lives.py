@@ -1,8 +1,8 @@
 """Computes from readings when each group existed, and its totals at any time.
 
-Between two readings a total grows linearly. A group was removed if it has no reading in three
-rounds in which other groups have readings. If a group's total falls, the group was removed and
-created again.
+Between two readings a total grows linearly, or as avg10 indicates. A group was removed if it has no
+reading in three consecutive rounds. If a group's total falls, the group was removed and created
+again.
 """
 from __future__ import annotations
 
@@ -19,7 +19,7 @@ from .shape import knots_between
 from .store import Plain
 
 US = 1000
-# A group that still exists may have no reading in at most this number of consecutive rounds.
+# A group counts as removed if more consecutive rounds than this have no reading of it.
 MOST_MISSED = 2
 # Between two readings a total may grow by at most FASTEST times the elapsed time plus SLACK (ns).
 # SLACK is needed because the files of a round aren't read at exactly the same time.
@@ -279,7 +279,7 @@ class Lives:
         )
 
     def is_absent(self, life: Life, time: int) -> bool:
-        """Whether more than MOST_MISSED rounds are between the last reading and `time` (ns)."""
+        """Whether the group missed more than MOST_MISSED rounds before `time` (ns)."""
         first = bisect.bisect_right(self.rounds, life.last + self.every // 2)
         return bisect.bisect_left(self.rounds, time - self.every // 2) - first > MOST_MISSED
 

@@ -77,9 +77,9 @@ def trace_path(path: str) -> str:
 
 
 def pressure_line(head: str, resource: str, text: str) -> str:
-    """Returns the line of output for a pressure file: the totals of some and full (us), and six
-    averages. Returns an empty string if the file has no line `some`. The totals of full are 0 if an
-    old kernel's file has no line `full`.
+    """Returns the line of output for a pressure file: `head` (the time and the group), the totals
+    of some and full (us), and six averages (percent). Returns an empty string if the file has no
+    line `some`. The totals of full are 0 if an old kernel's file has no line `full`.
     """
     found = {it[1]: it for it in LINE.finditer(text)}
     if "some" not in found:
@@ -90,8 +90,9 @@ def pressure_line(head: str, resource: str, text: str) -> str:
 
 
 def memory_line(head: str, folder: str) -> str:
-    """Returns the line of output for a group's memory: memory and swap (bytes), and the count of
-    scanned pages. Returns an empty string if the group has no memory controller.
+    """Returns the line of output for a group's memory: `head` (the time and the group), memory and
+    swap (bytes), and the count of scanned pages, if known. Returns an empty string if the group has
+    no memory controller.
     """
     current = text_of(f"{folder}/memory.current").strip()
     if not current.isdigit():

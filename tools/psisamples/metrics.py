@@ -188,7 +188,8 @@ class Text:
 
     def find(self, pattern: re.Pattern[str]) -> Optional[re.Match[str]]:
         """Finds the next match of a pattern, moves to its end, and returns it. Returns None if
-        there is no further match. A match has at most 200 characters.
+        there is no further match. A match that continues in the next piece must have at most 200
+        characters.
         """
         while True:
             found = pattern.search(self.text, self.at)

@@ -5,7 +5,9 @@ from typing import NamedTuple
 
 
 class Trigger(NamedTuple):
-    """A trigger from --trigger: its group, and the rest of its line."""
+    """A trigger from --trigger: the path of its group, and the other fields of its line (resource,
+    level, threshold and window in us).
+    """
 
     path: str
     fields: str

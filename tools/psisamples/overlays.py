@@ -11,8 +11,9 @@ from typing import NamedTuple
 
 from .block import Span
 
-# The bits of a status, which describes a segment of a block: a task waits for IO, a task is in a
-# memory stall, the time counts as memory full, a task is ready, a task runs.
+# The bits of a status. It describes a segment, a period of a block in which no task changes its
+# state: a task waits for IO, a task is in a memory stall, the time counts as memory full, a task is
+# ready, a task runs.
 WAITS, STALLS, ALL_STALL, READY, RUNS = 1, 2, 4, 8, 16
 BUSY = READY | RUNS
 STATUSES = 32

@@ -1,10 +1,11 @@
 """Arranges the blocks of a tick on processors, so that each group has the wanted shares.
 
-A group's share of a level is `sum(weight * time) // sum(weight)` over processors. A group without
-blocks of descendants needs a single block, since its share is then the block's time. The shares of
-any other group are corrected in three ways: by overlays, which have no weight; by further blocks;
-and by ballast, blocks in which only a task of the group runs, which lower its shares. The deepest
-groups are placed first, so the blocks of all descendants are known.
+A group's share of a level is `sum(weight * time) // sum(weight)` over processors, with its non-idle
+time (weight) and stall time on each. A group without blocks of descendants needs a single block,
+since its share is then the block's time. The shares of any other group are corrected in three ways:
+by overlays, which have no weight; by further blocks; and by ballast, blocks in which only a task of
+the group runs, which lower its shares. The deepest groups are placed first, so the blocks of all
+descendants are known.
 """
 from __future__ import annotations
 
@@ -28,8 +29,8 @@ from .block import (
 )
 from .overlays import LESS_FULL, LESS_OF_BOTH, MORE_OF_BOTH, MORE_SOME, Overlay, segments_of
 
-# The length of a tick (ms), the processors for blocks (a 64th creates and ends tasks), those for
-# groups without descendants, the most further blocks of a group, and the levels.
+# The length of a tick (ms), the number of processors for blocks (a 64th creates and ends tasks),
+# how many of them groups without descendants try first, the most further blocks, the levels.
 ROOM = TICK // MS
 MOST_PROCESSORS = 63
 SPREAD = 24
@@ -136,7 +137,7 @@ class Plan:
 
     def place_alone(self, group: int, times: Times) -> None:
         """Places the block of a group without blocks of descendants. Chooses the processor with the
-        least weight of the group's parent, since for the parent all blocks there count as one.
+        least weight of the parent, since the parent's stall times on a processor add up.
         """
         if group in self.late:
             times = fitted(times, (ROOM - 1) * MS)
@@ -176,9 +177,8 @@ class Plan:
     # ---------------------------------------------------------------- adding overlays to blocks
 
     def lay(self, group: int, over: Overlay, amount: int) -> int:
-        """Adds overlays of the group to the blocks of its descendants. An overlay on a processor
-        contributes its time (ns) times the processor's weight (ms). Adds as many as fit into
-        `amount` (ns times ms), and returns the sum of their contributions.
+        """Adds overlays of the group to blocks of its descendants. Returns the sum, at most
+        `amount`, of the length (ns) of each times the group's weight (ms) on its processor.
         """
         done, known = 0, self.has[group]
         for processor in sorted(known, key=lambda it: -known[it][0]):
@@ -387,7 +387,7 @@ class Need(NamedTuple):
             if lack <= 0 or length >= self.room:
                 break
             # The length at which a block is exactly as long as its times need, if the sums that it
-            # must add don't change. They grow with the length, so later rounds increase it by more.
+            # must add don't change. The sums grow with it, so later rounds increase it by more.
             better = (isqrt(base * base + 4 * (length + lack) * (base + length)) - base) // 2
             length = min(
                 self.room, max(better + 1, length + 1 + turn * lack) if turn else better + 1

@@ -1,9 +1,9 @@
 """Distributes the growth of a total between two samples over the ticks in between.
 
 A total may have grown early or late in the interval. The average avg10 at the end shows which,
-since late growth has more weight in it. So the growth rate is a linear function of time, limited to
-0 and the largest possible rate. Its slope is chosen so that the total and avg10 at the end agree
-with the samples.
+since late growth has more weight in it. So the growth rate at a time is a linear function of the
+weight that avg10 gives to that time, limited to 0 and the largest possible rate. Its slope is
+chosen so that the total and avg10 at the end agree with the samples.
 """
 from __future__ import annotations
 
@@ -39,8 +39,9 @@ def bounded_rates(
     lengths: Sequence[int],
     growth: float,
 ) -> list[float]:
-    """Returns the growth rate in each part of an interval, for a linear function with this slope.
-    Each rate is between 0 and the part's `most`. With these rates the total grows by `growth` (ns).
+    """Returns the growth rate in each part of an interval: a linear function, with this slope, of
+    the weight that avg10 gives to the part (`recent`). Each rate is between 0 and the part's
+    `most`. With these rates the total grows by `growth` (ns).
     """
     low, high = -abs(slope), 1.0 + abs(slope)
     found = [0.0] * len(recent)

@@ -34,7 +34,7 @@ class Store:
         self.offsets: list[int] = []
 
     def put(self, row: Plain) -> None:
-        """Adds a row in any order of time."""
+        """Adds a row. Rows may be added in any order."""
         self.rows.append(row)
         if len(self.rows) >= MOST_IN_MEMORY:
             self.spill()

@@ -37,8 +37,8 @@ def put_totals(
     line: int,
     has_averages: bool = True,
 ) -> None:
-    """Stores the totals (us) of a pressure file's some and full. With `has_averages`, also stores
-    their averages if `words` contains them.
+    """Stores a pressure file's totals of some and full (us), which `words` begins with. With
+    `has_averages`, also stores the six averages (percent) if `words` contains them.
     """
     base = 2 * RESOURCES.index(resource)
     put(time, group, base, (us(words[0]), us(words[1])), line)
@@ -161,8 +161,8 @@ class Round:
 
 
 def group_of(folder: str) -> str:
-    """Returns the path of the group whose folder this is, relative to the mount point of control
-    groups.
+    """Returns the path of the group whose folder this is, relative to the mount point of the cgroup
+    file system.
     """
     for mount in ("/sys/fs/cgroup/unified", "/sys/fs/cgroup"):
         if folder == mount or folder.startswith(mount + "/"):

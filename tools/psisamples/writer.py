@@ -1,6 +1,6 @@
 """Writes the event lines of blocks. Some changes of a task's state, such as the start of a sleep,
-require that the task runs. Such a task is switched to and away at the same time, so that it uses no
-processor time.
+require that the task runs. The processor switches to such a task and away from it at the same time,
+so that the task uses no processor time.
 """
 from __future__ import annotations
 
