@@ -2,9 +2,10 @@
 """Measures the cost of small runs of the programs, compares it with the figures stored in
 bench/effort.json, and prints figures that rose.
 
-usage: bench/effort.py [--program PATH] [--store] [NAME ..]     (the built psi_oomd, and all runs of
-    bench/effort_runs.py; of
-psi_observe PSI_OBSERVE, or the built one)
+usage: bench/effort.py [--program PATH] [--store] [NAME ..]
+
+Without PATH, the built psi_oomd is measured. Without NAME, all runs of bench/effort_runs.py are
+measured. Runs of psi_observe use the program that PSI_OBSERVE names, or the built one.
 
 Time depends on the machine, so these are counted instead:
 

@@ -38,8 +38,9 @@ Line = tuple[int, str]
 
 
 class Services:
-    """The simulated machine. `remaining` is the time (ns) that each thread must still compute
-    before it passes its token on. `due` has the scheduled events by time (ns).
+    """The simulated machine. A thread computes for `least` to `most` us per token. `remaining` is
+    the time (ns) that each thread must still compute before it passes its token on. `due` has the
+    scheduled events by time (ns).
     """
 
     def __init__(self, cpus: int, services: int, least: int, most: int) -> None:
@@ -91,8 +92,8 @@ class Services:
             self.queue[service] += 1
 
     def wake(self, number: int, time_ns: int) -> Iterator[Line]:
-        """Wakes a thread on its last processor, or, if that is busy, on an idle or a random
-        processor.
+        """Wakes a thread on its last processor or, if that is busy, on an idle processor. If none
+        is idle, the thread moves to a random processor in 30 percent of the cases.
         """
         cpu = self.home[number]
         if self.running[cpu] or self.ready[cpu]:
@@ -130,7 +131,9 @@ class Services:
             self.start(following, cpu, time_ns)
 
     def done(self, cpu: int, time_ns: int) -> Iterator[Line]:
-        """Stops a processor's running thread at the end of its time slice."""
+        """Handles the end of a running thread's turn. The thread runs on, is preempted, waits for
+        IO, or passes its token on.
+        """
         number = self.running[cpu]
         self.remaining[number] -= min(self.remaining[number], TURN)
         service = (number - 1) // THREADS

@@ -30,7 +30,9 @@ HOWS = {"preempt": 0, "sleep": 1, "iowait": 2, "exit": 32, "idle": 0}
 
 
 class Record:
-    """Encodes records of an event. The fields `names` are integers, and all other bytes are 0."""
+    """Encodes records of one kind of event. The fields `names` are integers, and all other bytes
+    are 0.
+    """
 
     def __init__(self, form: Format, names: tuple[str, ...]) -> None:
         fields = [form.fields[name] for name in ("common_type", *names)]

@@ -97,8 +97,8 @@ class Recording:
         return [abs(one - other) for one, other in pairs]
 
     def chosen(self, every: int) -> set[int]:
-        """Returns the numbers of the readings that sample the recording each `every` s: the first
-        reading at or after each multiple of `every`.
+        """Returns the numbers of the readings that sample the recording each `every` s: for each
+        multiple of `every`, the first reading that isn't more than 0.5 s before it.
         """
         found, due = set(), 0
         for number, at in sorted(self.times.items()):

@@ -52,7 +52,8 @@ def host_name(word: str) -> str:
 
 
 def page_name(word: str) -> str:
-    """Parses the name of the page's file. Without .html it is the name of the other output files.
+    """Parses the name of the page's file. The names of the other output files begin with this name
+    without its suffix .html.
     """
     if not word.endswith(".html") or os.path.basename(word) == ".html":
         raise Malformed(f"{word} isn't a name such as incident.html")

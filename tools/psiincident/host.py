@@ -13,8 +13,8 @@ from .steps import Steps, tools_path
 # The files of the recorder. No other files are copied to a host.
 RECORDER = ("record", "psirecord", "psirec")
 NAME = "recording"
-# The time (s) to wait for an interrupted recorder, which undoes its changes, before its folder is
-# removed.
+# The longest time (s) to wait for an interrupted recorder, which undoes its changes, before its
+# folder is removed.
 MOST_WAIT_S = 60
 
 

@@ -1,5 +1,5 @@
 """Writes a Debian package. In addition to the installed files, it contains the dependencies, the
-changelog, the licence, and the scripts that run when it is installed or removed.
+changelog, the license, and the scripts that run when it is installed or removed.
 """
 from __future__ import annotations
 

@@ -12,7 +12,7 @@ from dataclasses import dataclass, field
 from psicli.fault import Fault
 
 # The environment for --help. It sets a fixed width, so that the output is the same on each machine,
-# and switches colours off.
+# and switches colors off.
 ENVIRONMENT = {
     "COLUMNS": "100",
     "NO_COLOR": "1",

@@ -44,8 +44,8 @@ class Look:
 
 
 class Scans:
-    """The number of pages that each group scanned between the last two samples (`risen`). A check
-    without a new sample uses the numbers of the previous check.
+    """The number of pages that were scanned for each group between the last two samples (`risen`).
+    A check without a new sample uses the numbers of the previous check.
     """
 
     def __init__(self) -> None:
@@ -307,7 +307,8 @@ class Engine:
             self.next_look = -(-until // SWAP_INTERVAL) * SWAP_INTERVAL
 
     def take(self, time_ns: int, verb: str, fields: list[str]) -> None:
-        """Applies an event of the trace. Makes the swap checks that are due before its time first.
+        """Applies an event of the trace. First makes the swap checks that are due before the
+        event's time.
         """
         self.look_at_swap(time_ns)
         self.world.take(time_ns, verb, fields)
