@@ -1,9 +1,9 @@
 """Defines the runs that bench/effort.py measures, and writes their inputs.
 
-Each run would show one kind of wasted work that contracts don't exclude. Examples are threads that
-are started at each tick instead of once, a thread pool whose size differs from the requested size,
-rows that are computed but not printed, patterns that are matched repeatedly, and system calls that
-read one byte.
+Each run would reveal one kind of wasted work that contracts don't exclude. Examples are threads
+that are started at each tick instead of once, a thread pool whose size differs from the requested
+size, rows that are computed but not printed, patterns that are matched repeatedly, and system calls
+that read one byte.
 """
 from __future__ import annotations
 

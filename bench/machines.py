@@ -52,7 +52,7 @@ class Service:
 
     def sample(self, time: int) -> None:
         """Advances the memory (bytes), the swap (bytes) and the number of scanned pages by one
-        second, by the load at `time` (ns).
+        second, according to the load at `time` (ns).
         """
         kind, force = self.episode(time)
         if kind == "thrash":
@@ -75,7 +75,8 @@ class Task:
         self.is_stalled = self.ends_stall = False
 
     def plan(self, time: int) -> None:
-        """Chooses the task's next burst and sleep by the load of its service at `time` (ns)."""
+        """Chooses the task's next burst and sleep according to its service's load at `time` (ns).
+        """
         rng = self.service.rng
         kind, force = self.service.episode(time)
         self.ends_stall, self.leaves = self.is_stalled, "sleep"

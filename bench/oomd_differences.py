@@ -102,7 +102,9 @@ def size_ranks(self: BySize, look: Look, paths: list[str]) -> Ranked:
 def at_last(
     self: Killer, look: Look, path: str, candidates: list[Candidate]
 ) -> list[tuple[str, list[Candidate]]]:
-    """Returns the group at `path` as the victim if none of its descendants can be the victim."""
+    """Returns the possible victims: descendants of the group at `path` if the action is recursive,
+    or the group itself if no descendant is possible.
+    """
     if not look.machine.is_populated(path):
         return []
     below = look.machine.children(path) if self.is_recursive else []

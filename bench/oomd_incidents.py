@@ -35,9 +35,7 @@ def parents(service: str) -> list[str]:
 
 @dataclass
 class Incident:
-    """A machine on which some services misbehave after a while. Each task has a processor of its
-    own.
-    """
+    """A machine on which some services misbehave after a while. Each task has its own processor."""
 
     draw: random.Random
     kind: str

@@ -34,7 +34,7 @@ from psiread.table import table_of  # noqa: E402
 
 TRACING = "/sys/kernel/tracing"
 EVENTS = ("sched/sched_switch", "sched/sched_wakeup")
-# A round trip of the benchmark's token causes two switches and two wakeups.
+# One loop of `perf bench sched pipe` causes two switches and two wakeups.
 EVENTS_OF_A_PASS = 4
 # The largest number of bytes that an event occupies in a ring buffer.
 EVENT_BYTES = 100

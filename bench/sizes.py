@@ -5,13 +5,13 @@ tests.
 usage: bench/sizes.py [--unreached]
 
 Counts lines that are neither blank nor comments. In definitions and proofs, `use` lines don't count
-either. docs/ARCHITECTURE.md lists the files that have to be trusted. Laws, which are proved, are
-in other files. A contract is a clause of a function or a loop (`requires`, `ensures`, `invariant`),
-an `assert`, or a `ghost` item, up to the line with its last closing bracket.
+either. docs/ARCHITECTURE.md lists the trusted files. Laws, which are proved, are in other files. A
+contract is a clause of a function or a loop (`requires`, `ensures`, `invariant`), an `assert`, or a
+`ghost` item, up to the line with its last closing bracket.
 
 Ends with status 1 if that list differs from the result of bench/believed.py: if it lacks a file on
-which the contracts of the top calls rest, or has a file that none of them needs. `--unreached`
-prints the definitions in those files on which no contract rests.
+which the contracts of the programs depend, or has a file that none of them needs. `--unreached`
+prints the definitions in the trusted files on which no contract depends.
 """
 import pathlib
 import re

@@ -48,7 +48,9 @@ def parts_of(groups: Groups, parts: list[Part], top: Optional[int]) -> list[dict
 
 
 def shares_of(shares: Sequence[Share]) -> dict[str, Any]:
-    """Returns the run times of a part's processes for JSON. Empty if processes have no names."""
+    """Returns the run times of a part's processes for JSON. The result is empty if processes have
+    no names.
+    """
     rows = [
         {"name": it.name, "threads" if it.is_thread else "pids": list(it.numbers), "ns": it.time}
         for it in shares

@@ -1,5 +1,6 @@
-"""Measures, for one processor, how long each group waited while a certain group ran. Also measures
-how long groups waited for IO or were in a memory stall.
+"""Measures, for one processor, how long each group waited while each runner ran. A runner is a
+group, or a process within its group. Also measures how long groups waited for IO or were in a
+memory stall.
 """
 from __future__ import annotations
 

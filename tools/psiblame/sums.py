@@ -63,8 +63,8 @@ class Stretches:
         self.done: list[Sums] = []
 
     def next_cut(self) -> float:
-        """Returns the time (ns) at which the current time span ends. Infinity for the last time
-        span.
+        """Returns the time (ns) at which the current time span ends. Returns infinity for the last
+        time span.
         """
         return self.cuts[0] if self.cuts else float("inf")
 

@@ -44,7 +44,7 @@ def size(number: int) -> str:
 
 
 def shortened(name: str) -> str:
-    """Shortens a long name from the left, since the end of a name is its most specific part."""
+    """Shortens a long name by omitting its start, since its end is the most specific part."""
     return name if len(name) <= HEAD else f"..{name[2 - HEAD :]}"
 
 

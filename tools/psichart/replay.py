@@ -89,7 +89,7 @@ class Replay:
         self.end = End(0, 0, 0, 0)
 
     def take_report(self, report: Report) -> None:
-        """Counts a report for its round, and stores it if its group is drawn."""
+        """Adds a report to its round, and stores it if its group is drawn."""
         self.rounds.take(report.time_ns, report.path)
         if report.path in self.groups:
             series = self.series.setdefault((report.path, report.resource), Series())

@@ -18,8 +18,9 @@ def add_span(
     start: int | None = 0,
     reader: Callable[[str], int | WallTime] = point,
 ) -> None:
-    """Adds --from and --to, which select a part of a trace, a chart or a recording. Their values
-    are `start` and `end` (ns). The parameter `start` is the default of --from.
+    """Adds --from and --to, which select a part of a trace, a chart or a recording. Their values,
+    `start` and `end`, are in ns or are times of day. The parameter `start` is the default of
+    --from. `whole` names in the help text what they select from.
     """
     forms = f"seconds, or a time such as {EXAMPLE}" if reader is point else "seconds"
     parser.add_argument("--from", dest="start", metavar="S", type=reader, default=start,

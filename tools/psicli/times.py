@@ -94,7 +94,7 @@ def zone(ahead: int) -> str:
 
 
 class Shown:
-    """The time of day at which the printed trace started, or None if it isn't known."""
+    """The time of day at the start of the trace whose times are printed, or None if unknown."""
 
     wall: WallTime | None = None
 

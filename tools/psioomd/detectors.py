@@ -30,7 +30,9 @@ def weight(averages: Averages) -> float:
 
 
 class Nearest:
-    """The value that came nearest to a limit so far, with its time (ns) and its group's path."""
+    """The value that came nearest to a limit so far, with its time (ns) and its group's path. With
+    `is_least`, a smaller value is nearer, and otherwise a larger one.
+    """
 
     def __init__(self, is_least: bool = False) -> None:
         self.sign = -1 if is_least else 1

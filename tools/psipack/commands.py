@@ -6,8 +6,8 @@ from dataclasses import dataclass
 
 @dataclass(frozen=True)
 class Tool:
-    """A tool: its file in `tools`, the command as which it is installed, and a summary for the head
-    of its manual page.
+    """A tool: its file in `tools`, the name of its installed command, and a summary for the head of
+    its manual page.
     """
 
     file: str

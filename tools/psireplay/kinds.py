@@ -77,8 +77,8 @@ def file_kind(path: str) -> Optional[Kind]:
 
 
 def kind_message(kind: Optional[Kind], expected: str, name: str) -> str:
-    """Returns the part of a message that says what a file is, in contrast to `expected`. The text
-    is empty if the file's kind isn't known or is the expected one.
+    """Returns the part of a message that says what kind of file was passed instead of the kind
+    `expected`. The text is empty if the file's kind isn't known or is the expected one.
     """
     if not kind or (kind.what, expected) in ((expected, expected), (JSON, RULES)):
         return ""
@@ -91,7 +91,7 @@ def kind_message(kind: Optional[Kind], expected: str, name: str) -> str:
 
 
 def what_it_is(path: str, expected: str, name: Optional[str] = None) -> str:
-    """Returns the part of a message that says what the file at `path` is, in contrast to
+    """Returns the part of a message that says what kind of file `path` is, instead of the kind
     `expected`. The text is empty if the file's kind isn't known. `name` is the file's name in
     messages, if that differs from the path.
     """

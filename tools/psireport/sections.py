@@ -222,9 +222,8 @@ def controls(parent: Element, pictures: list[Picture], first: set[str]) -> None:
 
 
 def time_lines(page: Element, facts: Facts) -> list[Picture]:
-    """Adds the section with the time lines, and returns its pictures. For each resource there is a
-    picture for each group that stalled most. For each of these groups there is a picture of its
-    memory.
+    """Adds the section with the time lines, and returns its pictures. The first pictures show the
+    pressure of the drawn groups for each resource, and the others show these groups' memory.
     """
     axis = time_axis(0, facts.replay.end.time_ns, facts.wall)
     album = Album(facts.replay, axis, facts.judged.rules if facts.judged else None, facts.samples)

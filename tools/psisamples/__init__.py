@@ -1,3 +1,3 @@
-"""Converts samples of pressure to a trace: artificial scheduler events that cause the pressure that
-a machine reported.
+"""Converts pressure samples to a trace of artificial scheduler events. A replay of the trace shows
+the pressure that the machine reported.
 """

@@ -66,9 +66,9 @@ def least_length(times: Times) -> int:
 
 
 def easy_length(times: Times) -> int:
-    """Returns the length (ns) of a block in which tasks sleep during all of the memory full time,
-    so that fewer context switches are needed. Returns the length of the shortest block if a tick is
-    too short for that.
+    """Returns the length (ns) of a block whose first part, in which no task is ready, contains all
+    of the memory full time. Such a block needs fewer context switches. Returns the length of the
+    shortest block if a tick is too short for that.
     """
     io_some, io_full, mem_some, mem_full, cpu_some, _ = times
     busy = max(cpu_some, io_some - io_full, mem_some - mem_full)

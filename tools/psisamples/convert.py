@@ -99,7 +99,7 @@ class Conversion:
         return lines
 
     def remove(self, ends: list[Life], lines: list[str]) -> list[Life]:
-        """Removes `ends` and their descendants. Returns groups that continue the descendants."""
+        """Removes `ends` and their descendants. Returns new groups in place of the descendants."""
         removed = {it.path for it in ends}
         again: list[Life] = []
         for life in sorted(self.order, key=lambda it: -it.path.count("/")):

@@ -68,7 +68,7 @@ def text_of(path: str) -> str:
 
 def trace_path(path: str) -> str:
     """Returns a group's path in the form of a trace: a byte that a trace doesn't allow in a path
-    becomes \\xHH, as in systemd's names of units.
+    becomes \\xHH, as systemd escapes the names of units.
     """
     parts = [it for it in os.fsencode(path).split(b"/") if it]
     return "/" + "/".join(

@@ -32,7 +32,7 @@ LINE = re.compile(r"([a-zA-Z_:][a-zA-Z0-9_:]*)?\s*(?:\{(.*)\})?\s+(\S+)\s+([0-9.
 POINT = re.compile(r'\s*,?\s*\[\s*([0-9.eE+]+)\s*,\s*"([^"]*)"\s*\]')
 # The value that marks the end of a series in a dump.
 STALE = "NaN"
-# A timestamp with this number of digits is in ms.
+# Matches a timestamp in ms, which has 12 to 14 digits.
 MILLISECONDS = re.compile("[0-9]{12,14}")
 
 

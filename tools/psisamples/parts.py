@@ -169,7 +169,7 @@ class Maker:
         )
 
     def write(self, name: str, conversion: Conversion, part: int, begin: int) -> None:
-        """Writes the file of a part of the trace."""
+        """Writes the file of part number `part`, which begins at `begin` (ns since 1970)."""
         if conversion.made_groups > MOST_OF_ALL:
             raise Fault(
                 f"there are {conversion.made_groups} groups at once: at most {MOST_OF_ALL}, see"

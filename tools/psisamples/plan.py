@@ -30,7 +30,7 @@ from .block import (
 from .overlays import LESS_FULL, LESS_OF_BOTH, MORE_OF_BOTH, MORE_SOME, Overlay, segments_of
 
 # The length of a tick (ms), the number of processors for blocks (a 64th creates and ends tasks),
-# how many of them groups without descendants try first, the most further blocks, the levels.
+# the number that groups without descendants try first, the most further blocks, the levels.
 ROOM = TICK // MS
 MOST_PROCESSORS = 63
 SPREAD = 24

@@ -117,7 +117,9 @@ class Round:
         self.lines: dict[str, int] = {}
 
     def take(self, number: int, line: str) -> None:
-        """Parses a line `PATH:LINE` of a file. `number` is the line number in the input."""
+        """Parses `PATH:LINE`, which contains a line of the file PATH. `number` is the line number
+        in the input.
+        """
         path, _, text = line.partition(":")
         folder, name = os.path.split(path)
         if folder == "/proc/pressure" or name.endswith(".pressure"):

@@ -11,7 +11,8 @@ from .block import TICK, Span
 from .overlays import IN_STALL
 from .plan import Block
 
-# The word of the switch by which a task leaves its processor, by the letter of its next state.
+# The last word of the `switch` line of a task that leaves its processor, keyed by the letter of its
+# next state.
 HOW = {"w": "iowait", "s": "sleep", "z": "sleep", "r": "preempt", "R": "preempt"}
 ASLEEP, RUNNING = "wsz", "xX"
 

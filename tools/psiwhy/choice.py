@@ -29,8 +29,8 @@ class Candidate(NamedTuple):
 
 class Choice(NamedTuple):
     """What an action did: its number and plugin, the path of its victim (or None), and its
-    candidates. `nobody` says why it killed nothing. A recursive action has the candidates of all
-    levels.
+    candidates. `nobody` says why it killed nothing. For a recursive action, `candidates` has those
+    at each level of the tree, down to the victim.
     """
 
     action: int

@@ -156,7 +156,9 @@ def candidate_record(it: Candidate) -> dict[str, object]:
 
 
 def spans_text(spans: list[Span], most: int = 3) -> str:
-    """Formats up to `most` spans (ns), such as `from 146 s to 214 s`. Counts the others."""
+    """Formats up to `most` spans (ns), such as `from 146 s to 214 s`. Appends the number of the
+    others.
+    """
     found = [
         f"at {time_text(start)}" if start == end else f"from {time_text(start)} to {time_text(end)}"
         for start, end in spans[:most]

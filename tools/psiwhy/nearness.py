@@ -18,7 +18,7 @@ PRESSURE = {"pressure_above": 10, "pressure_rising_beyond": 60}
 class Group(NamedTuple):
     """A group at an evaluation: its averages of full pressure of IO and memory over 10 s and 60 s
     (hundredths of a percent), its memory (bytes, or None without a sample), and the number of pages
-    that it scanned since the previous evaluation.
+    that were scanned for it since the previous evaluation.
     """
 
     full: dict[tuple[str, str], int]

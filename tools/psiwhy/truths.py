@@ -56,7 +56,7 @@ def has_duration(detector: Detector) -> bool:
 
 def questions(rulesets: list[dict[str, Any]]) -> Iterator[tuple[Place, list[list[Any]]]]:
     """Yields the places to evaluate: rulesets, groups of detectors, and detectors with and without
-    their durations. Each has the detectors of the ruleset that is replayed for it.
+    their durations. Each place comes with the detectors of the ruleset that is replayed for it.
     """
     yield ALWAYS, [["always"]]
     for number, ruleset in enumerate(rulesets):
