@@ -238,9 +238,8 @@ PlannedIsStall =
     → k ≤ length (changes_of cpu events) → last_change (plan_of cpu events) k ≤ at →
     planned_time state (plan_of cpu events) slot k at ≡ stall state cpu slot (until_change cpu events k) at
 
--- If time `at` (ns) is at or after the last event, a group's stall time on a processor up to `at`
--- is the stall time for the events up to the processor's last change, because later events touch
--- only other processors.
+-- If time `at` (ns) isn't before the last event, a group's stall time up to `at` is that of the
+-- events up to the processor's last change, because later events touch only other processors.
 abbrev pub StallByOwnChanges : Type 0
 StallByOwnChanges =
     (limits : Limits) (events : List Event) → AreLegal limits first_world events → (state : State) (cpu slot at : ℕ)
@@ -317,8 +316,7 @@ CountsByChange = (plan : PlanView) → FitsPlan plan → (slot k : ℕ) (change 
     Follows (counts_after plan slot k) (on_chain plan.parents slot change.minus) (on_chain plan.parents slot change.plus)
     (counts_after plan slot (k + 1))
 
--- If the counts of a plan fit (`FitsPlan`), the counts after each prefix of the changes are at most
--- 65,536, the maximum number of live tasks.
+-- If a plan's counts fit, the counts after each prefix of the changes are at most 65,536.
 abbrev pub PlanCountsAreFew : Type 0
 PlanCountsAreFew =
     (plan : PlanView) → FitsPlan plan → (slot k : ℕ) → k ≤ length plan.changes → AreAtMost most_tasks (counts_after plan slot k)

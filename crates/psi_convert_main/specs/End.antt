@@ -31,8 +31,8 @@ run_reads log log_now = record { log = log; log_now = log_now }
 -- A run of the command line `words` ended with the status `ended`. If the contents of the files are
 -- known, the output and the status are those that `convert_of` defines. Each failure that the
 -- status reports was counted, and the files were read in order. If the status is NoFile, the file
--- that it names is missing; if a file is missing, the status isn't Done. The status is Usage exactly
--- if the words aren't a command; then the run read and wrote nothing.
+-- that it names is missing. If a file is missing, the status isn't Done. The status is Usage
+-- exactly if the words aren't a command; then the run read and wrote nothing.
 pub record RanAs (words : List (List ℕ)) (ended : Status) (files : Option Files) (before now : RunCounts) (reads : RunReads)
     (old new : Option (List ℕ)) : Type 0 where
   pub converts : (table : List ℕ) (pages : List (List ℕ)) (bytes : List ℕ) (wholes : List (List ℕ)) → is_command words ≡ true
