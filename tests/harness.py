@@ -31,9 +31,9 @@ from typing import IO, NamedTuple
 from shared.difference import difference
 from shared.program import TOP, USED, program_of
 
-# The time limit (s) of a check. It is far longer than any check needs, and is multiplied by the
-# number of processes per processor. A check that exceeds its limit is interrupted, and again each
-# AGAIN_S seconds.
+# The time limit (s) of a check, which is far longer than any check needs. If the load average is
+# higher than the number of processors, the limit is multiplied by their quotient. A check that
+# exceeds its limit is interrupted, and again every AGAIN_S seconds.
 LIMIT_S, AGAIN_S = 300.0, 10.0
 # The largest number of characters that are printed of a failure. A longer text is cut in the
 # middle.

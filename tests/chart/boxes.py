@@ -38,10 +38,9 @@ MONOSPACE = 602
 # have the size PHONE_SHARE.
 SIZES, SIZE = {"title": 16, "name": 13, "small": 11, "note": 11, "path": 11}, 12
 PHONE, PHONE_SHARE = 24, 20
-# A phone hides texts of the classes in HIDDEN, and every second number of the axes in AXES.
+# On a phone, texts of the classes in HIDDEN and every second number on the axes in AXES are hidden.
 HIDDEN, AXES = {"small", "note", "path"}, {"time", "share"}
-# The number of points on each segment of a curve at which it is tested whether the point is in a
-# box.
+# To find whether a segment of a curve crosses a box, this number of points on the segment is tested.
 PARTS = 16
 
 

@@ -47,8 +47,8 @@ def drawn_of(printed: bytes, *words: str) -> bytes:
 
 
 def scale_of(marks: Sequence[tuple[float, float]]) -> Scale:
-    """Returns a function from a number to its position on an axis. The scale is computed from the
-    first and the last mark of the axis.
+    """Returns a function from a number to its position on an axis. `marks` are pairs of a number
+    and its position. The scale is computed from the first and the last pair.
     """
     (first, first_place), (last, last_place) = marks[0], marks[-1]
     must(first != last, "an axis has two numbers")
@@ -127,7 +127,7 @@ class Drawn:
         return [self.texts(panel)[0] for panel in self.panels()]
 
     def panel(self, resource: str, number: int = 0) -> Element:
-        """Returns the panel of the resource for the group with this number."""
+        """Returns the panel of the resource for the group with the index `number` (from 0)."""
         return self.all("g", f"panel {resource}")[number]
 
     def numbers(self, panel: Element) -> list[tuple[str, float]]:

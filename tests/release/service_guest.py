@@ -125,8 +125,8 @@ class Watcher:
         self.before = found
 
     def compare(self, found: dict[str, Found]) -> None:
-        """Checks which recordings were deleted since the previous scan: only the oldest, and none
-        that was being written.
+        """Counts the recordings that began and that were deleted since the previous scan. Checks
+        that only the oldest were deleted, and none that was being written.
         """
         gone = {name: it for name, it in self.before.items() if name not in found}
         stayed = [it for name, it in self.before.items() if name in found and not it.is_written]
@@ -139,8 +139,8 @@ class Watcher:
         self.minute.begun += new
         self.begun += new
         self.deleted += len(gone)
-        # A recording counts as soon as it ends. If at least `keep` recordings remain together with
-        # it, the limit on their number has caused the deletion.
+        # The service deletes old recordings when a new one ends. If the new one and the remaining
+        # ones are at least `keep`, the limit on their number has caused the deletion.
         if len(stayed) + 1 >= self.keep:
             self.minute.deleted_by_number += len(gone)
         else:

@@ -17,8 +17,8 @@ States = dict[int, list[bool]]
 
 @dataclasses.dataclass
 class Tick:
-    """A tick: its time (ns), the group that has the path at this time (None if no group has it),
-    and the number of changes of each processor before the tick.
+    """A tick: its time (ns), the number of the group that has the observed path at this time (None
+    if no group has it), and the number of changes of each processor before the tick.
     """
 
     moment: int
@@ -59,7 +59,7 @@ class Clocks:
             self.end_tick(tick, machine, path)
 
     def end_tick(self, tick: int, machine: Machine, path: str) -> None:
-        """Appends the next tick, whose length is `tick` ns, to the list of ticks."""
+        """Appends the next tick to the list. Ticks are `tick` ns long. `path` is observed."""
         counts = [len(changes) - 1 for changes in self.changes]
         self.ticks.append(Tick((len(self.ticks) + 1) * tick, machine.live.get(path), counts))
 

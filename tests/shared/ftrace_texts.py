@@ -1,5 +1,5 @@
-"""Makes random ftrace texts. A scheduler could have printed their lines. Optionally, the texts
-contain random faults.
+"""Makes random ftrace texts whose events a real scheduler could cause. Optionally puts random
+faults into the texts.
 """
 from __future__ import annotations
 
@@ -38,7 +38,7 @@ PIECES = (
 
 @dataclass
 class Scheduler:
-    """Simulates tasks on some processors, and prints ftrace lines about them. The tasks do only
+    """Simulates tasks on some processors, and makes ftrace lines about them. The tasks do only
     what a real scheduler allows. Times are in us.
     """
 

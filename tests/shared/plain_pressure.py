@@ -2,7 +2,7 @@
 docs/PRESSURE.md.
 
 The states of tasks and groups, and the tasks that interrupts delay, come from
-tests/shared/machine.py, which follows the rules alone.
+tests/shared/machine.py, which follows only the rules of the documentation.
 """
 from __future__ import annotations
 

@@ -251,7 +251,7 @@ def is_empty(path: str, others: list[str]) -> bool:
 
 
 def random_trace(seed: int) -> str:
-    """Returns a random trace of slices with memory stalls. Many events are at evaluations."""
+    """Returns a random trace of slices with memory stalls. Many events occur exactly at evaluations."""
     draw, time_ns, scanned, homes = random.Random(seed), 0, {"/": 0}, dict[int, str]()
     lines, runs, is_stalled, label = ["0 host 1000 1000 500", "0 mem / 500 0 0"], 0, False, 0
     for _ in range(200):
