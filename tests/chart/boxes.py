@@ -40,7 +40,8 @@ SIZES, SIZE = {"title": 16, "name": 13, "small": 11, "note": 11, "path": 11}, 12
 PHONE, PHONE_SHARE = 24, 20
 # On a phone, texts of the classes in HIDDEN and every second number on the axes in AXES are hidden.
 HIDDEN, AXES = {"small", "note", "path"}, {"time", "share"}
-# To find whether a segment of a curve crosses a box, this number of points on the segment is tested.
+# The number of points on each segment of a curve that are tested, to find whether the segment
+# crosses a box.
 PARTS = 16
 
 

@@ -74,7 +74,7 @@ def packed(rules: list[list[Any]]) -> Iterator[list[Any]]:
 
 
 def difference(rules: list[Any], wanted: list[str], found: list[str]) -> str:
-    """Returns the first kill line (in the order of the text) that is only in `wanted` or only in
+    """Returns the first kill line (in alphabetical order) that is only in `wanted` or only in
     `found`, with its ruleset. Returns a message if only the order of the lines differs.
     """
     lines = sorted({*wanted} ^ {*found})

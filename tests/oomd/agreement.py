@@ -72,7 +72,9 @@ def check_oomd_on_the_experiments(room: Room) -> None:
 
 
 def watching(action: str, cgroup: str, **more: object) -> Config:
-    """Returns a configuration that kills early in each recording."""
+    """Returns a configuration whose action, for the groups that match `cgroup`, is `action`. It
+    kills early in each recording.
+    """
     resource = {"resource": "memory"} if action == "kill_by_pressure" else {}
     detectors = [
         plugin("pressure_above", "*,*/*", resource="memory", threshold=1, duration=2),

@@ -54,7 +54,7 @@ oomd 0.5.0: 2 looks, one each 1 s
 
 
 def check_the_story(room: Room) -> None:
-    """oomd evaluates its rules each 5 s, so it kills at 150 s. psi_oomd kills at 150 s with ticks
+    """oomd evaluates its rules every 5 s, so it kills at 150 s. psi_oomd kills at 150 s with ticks
     of 1 s, and at 146 s with its default ticks.
     """
     done = room.run(OOMD, RUNAWAY, "--config", RUNAWAY_RULES, "--compare", RUNAWAY_RULES)

@@ -42,7 +42,7 @@ def see(name: str, **args: object) -> Any:
 
 PRESSURE: dict[str, Any] = {"cgroup": "a", "resource": "io", "threshold": 1, "duration": 1}
 MEMORY: dict[str, Any] = {"cgroup": "a", "threshold": "1G", "duration": 1}
-# Configurations. Each has a part of oomd's error message, or None if oomd accepts the
+# Configurations, each with a part of oomd's error message, or with None if oomd accepts the
 # configuration.
 CONFIGURATIONS: tuple[tuple[Any, str | None], ...] = (
     ({}, None), ({"rulesets": {}}, None), ({"rulesets": []}, None), (None, None),

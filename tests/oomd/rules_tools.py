@@ -30,7 +30,7 @@ FULL = {"always_continue": "false", "cgroup": "a", "post_action_delay": "15", "r
 
 
 def check_expect(room: Room) -> None:
-    """oomd evaluates its rules each 5 s, so it kills at 150 s. With an interval of 1 s, and by
+    """oomd evaluates its rules every 5 s, so it kills at 150 s. With an interval of 1 s, and by
     psi_oomd's defaults, the kill is at 146 s.
     """
     wants = {

@@ -18,7 +18,8 @@ LABELS = {
 PS = {"containers": [{"id": CONTAINER, "metadata": {"name": "nginx"}, "labels": LABELS}]}
 PS_LATER = {"containers": [{"id": LATE, "metadata": {"name": "late"}}]}
 PODS = {"items": [{"id": SANDBOX, "metadata": {"name": "web-7", "namespace": "prod", "uid": UID}}]}
-# A stub of crictl: it logs its arguments, and lists one more container on its second call.
+# A stub of crictl: it logs its arguments. The second `crictl ps`, which is the third call, lists a
+# container that the first one doesn't list.
 CRICTL = f"""#!/bin/sh
 echo "$@" >>"$(readlink -f "$0").words"
 case "$1 $(grep -c . "$(readlink -f "$0").words")" in

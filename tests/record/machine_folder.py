@@ -72,8 +72,8 @@ def write(path: str, text: str | bytes) -> None:
 def kernel_types(wait_name: str = "in_iowait", functions: dict[str, int] = FUNCTIONS) -> bytes:
     """Returns a kernel's type information in the format of Documentation/bpf/btf.rst. It contains
     two misleading structures, the right structure, and functions with these numbers of parameters,
-    each before its prototype. One misleading structure contains the number of the right name, and
-    the other has the right name but not the members.
+    each before its prototype. In one misleading structure, a member's offset equals the offset of
+    the text `task_struct`. The other is named `task_struct`, but lacks the members.
     """
     names, text = {}, b"\0"
     for name in ("int", "task_struct", "other", "pid", wait_name, *functions):

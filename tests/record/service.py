@@ -183,8 +183,8 @@ def make_hook(top: str, lines: str) -> str:
 
 
 def check_hook(top: str) -> None:
-    """After a recording is complete, the hook is called with its folder. A failure of the hook has
-    no effect.
+    """After a recording is complete, the hook is called with the recording's folder. A failure of
+    the hook has no effect.
     """
     folder.make_machine(top)
     hook = make_hook(top, f'tail -1 "$1/meta" >"{top}.said"; echo "$1" >>"{top}.said"; exit 7')

@@ -164,8 +164,8 @@ def changes_of_accounting(top: str) -> list[str]:
 
 def check_an_unaccounted_group_that_comes_again(top: str) -> None:
     """A group that is removed and created again is accounted until its new accounting is switched
-    off, even if no sample saw the removal. The files change by a rename, so that each sample finds
-    either the old folder or the new one.
+    off, even if no sample saw the removal. The check replaces the group's folder by renaming
+    folders, so that each sample finds either the old folder or the new one.
     """
     folder.make_machine(top)
     run = Run(top, "--seconds", "2.5", "--memory-s", "0.1")
@@ -200,7 +200,7 @@ def check_accounting_without_its_file(top: str) -> None:
 
 def check_a_busy_processor(top: str) -> None:
     """If a read returns a large part of the buffer, the recorder reads again soon. With a buffer of
-    64 KiB, 8 MB take 2.5 s instead of 30 s.
+    64 KiB, it reads 8 MB in 2.5 s instead of 30 s.
     """
     folder.make_machine(top, pages=2000)
     run = Run(top, "--buffer-kb", "64")

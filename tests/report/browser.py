@@ -137,7 +137,7 @@ class Page:
         return found["result"].get("value")
 
     def look(self, width: int, height: int = 900, scheme: str = "light", media: str = "") -> None:
-        """Sets the window's size (pixels), the preferred colour scheme (light or dark) and the
+        """Sets the window's size (pixels), the preferred color scheme (light or dark) and the CSS
         medium.
         """
         self.ask("Emulation.setDeviceMetricsOverride", width=width, height=height,
@@ -160,7 +160,7 @@ class Page:
 
     def drag(self, left: float, right: float, y: float) -> None:
         """Presses the mouse button at x = `left`, moves the pointer to x = `right`, and releases
-        the button. All positions are in pixels, at height `y`.
+        the button. Positions are in pixels, and the vertical position is `y` throughout.
         """
         self.mouse("mousePressed", left, y, button="left", clickCount=1)
         self.mouse("mouseMoved", (left + right) / 2, y, button="left", buttons=1)

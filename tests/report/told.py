@@ -136,7 +136,9 @@ def check_values_for_the_script(program: str) -> None:
 
 
 def some_pressure(draw: random.Random, total: int) -> Pressure:
-    """Returns a pressure with random averages, which are mostly 7, and with this total (us)."""
+    """Returns a pressure with random averages (hundredths of a percent), most of which are 7, and
+    with this total (us).
+    """
     averages = [draw.randrange(10**4) if draw.random() < 0.01 else 7 for _ in range(3)]
     return Pressure(averages[0], averages[1], averages[2], total)
 

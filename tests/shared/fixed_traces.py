@@ -140,8 +140,8 @@ INTERRUPTS = """psitrace 2 cpus=2
 2500000000 irq 0 1
 3000000000 end
 """
-# The pressure accounting of /a is off during a tick and during a change of its task. Another group
-# is off while its child is on. One group is removed and created again.
+# The pressure accounting of /a is off at a tick and while a task below it wakes. That of its child
+# /a/b stays on. Later /a/b is off, and is removed and created again.
 SWITCHED = """psitrace 2 cpus=2
 0 group /a
 0 group /a/b

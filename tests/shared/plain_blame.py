@@ -18,11 +18,12 @@ Pairs = collections.Counter[tuple[int, Optional[int]]]
 
 
 class Plain(NamedTuple):
-    """The sums of time (ns) for an interval. `ran` is by group, and `times` by group, processor and
-    state. `while_ran` has the time for which a group waited while another ran, and `beside` has, by
-    state, the time for which two groups were both in it. `while_victim` is the time for which a
-    group waited while the victim ran. `less` is the time by which it would have waited less without
-    the victim.
+    """The sums of time (ns) for an interval. `ran` has the time for which tasks of a group or below
+    it ran. `times` is by group, processor and state. `while_ran` has the time for which a
+    group waited while another ran. `beside` has, by state, the time for which the first group was
+    in it, summed over the processors, while the second was in it on any processor. `while_victim`
+    is the time for which a group waited while the victim ran, and `less` the time by which the
+    group would have waited less without the victim.
     """
 
     ran: collections.Counter[int]

@@ -232,7 +232,8 @@ def is_first(lines: list[Line], key: tuple[str, int]) -> bool:
 def decisions(text: str, printed: str, limit: int, length: int) -> list[Decision]:
     """Returns the decisions for a trace in order of time: the time (ns), the victim (None if there
     is none) and the reason. `printed` is psi_oomd's output for the trace, which contains the
-    averages of pressure.
+    averages of pressure. A group is a target after its pressure has been above `limit`
+    (hundredths of a percent) for `length` ns.
     """
     lines = [(int(it.split()[0]), it.split()[1:]) for it in text.splitlines()[1:-1]]
     end = int(text.splitlines()[-1].split()[0])
@@ -251,7 +252,7 @@ def is_empty(path: str, others: list[str]) -> bool:
 
 
 def random_trace(seed: int) -> str:
-    """Returns a random trace of slices with memory stalls. Many events occur exactly at evaluations."""
+    """Returns a random trace of slices with memory stalls. Many events occur at evaluations."""
     draw, time_ns, scanned, homes = random.Random(seed), 0, {"/": 0}, dict[int, str]()
     lines, runs, is_stalled, label = ["0 host 1000 1000 500", "0 mem / 500 0 0"], 0, False, 0
     for _ in range(200):

@@ -230,7 +230,8 @@ pub struct MemSink {
 }
 
 impl MemSink {
-    /// Creates an empty sink with a capacity of `room` bytes.
+    /// Creates an empty sink with a capacity of `room` bytes. Each write accepts at most `most`
+    /// bytes, and the writes with the numbers `fails` fail.
     pub fn new(
         alloc: Global,
         room: usize,

@@ -1,4 +1,5 @@
-//! One run of a program in memory: its files, its output and its note, and calls that fail.
+//! One run of a program in memory: its files, its output, its note (standard error), and the calls
+//! that fail.
 ghost use Rattle.std.specs.Prelude.{◌≡◌, ◌-◌, [], ◌∷◌, IfOk, IsUtf8, drop, max, take, vec_len};
 
 use crate::text::{as_text, first_bytes, last_bytes};
