@@ -52,7 +52,9 @@ def stalled(task: int, start: int, end: int) -> list[tuple[int, str]]:
 
 
 def two_stalls(end: int, other: int = 14, first: int = 10, host: str = "host 1000000 0 0") -> str:
-    """Returns a trace in which /a/b stalls from 2 s to `first` s, and /x from 2 s to `other` s."""
+    """Returns a trace of `end` s in which /a/b stalls from 2 s to `first` s, and /x from 2 s to
+    `other` s. `host` is the host event at time 0, or '' for none.
+    """
     start_lines = [(0, host)] if host else []
     start_lines += [
         (0, it) for it in ("group /a", "group /a/b", "group /x", "fork 1 /a/b 0", "fork 2 /x 1")

@@ -59,7 +59,7 @@ pub fn page_with(rt: &impl Host, time: u64, flags: u32, records: &[u8], lost: u6
     page
 }
 
-/// Makes a page without lost events.
+/// Makes a page with this time (ns) and the bytes of its records, without lost events.
 pub fn page_of(rt: &impl Host, time: u64, records: &[u8]) -> Vec<u8> {
     page_with(rt, time, 0, records, 0)
 }

@@ -109,7 +109,7 @@ pub struct MemShelf {
     pub most: usize,
     /// The numbers of the calls that fail, from 0.
     pub fails: Vec<u64>,
-    /// The number of calls.
+    /// The number of reads so far, which is the number of the next read.
     pub calls: u64,
     /// The number of failed calls.
     pub faults: u64,
@@ -220,7 +220,7 @@ pub struct MemSink {
     pub most: usize,
     /// The numbers of the calls that fail, from 0.
     pub fails: Vec<u64>,
-    /// The number of calls.
+    /// The number of writes so far, which is the number of the next write.
     pub calls: u64,
     /// The number of failed calls.
     pub faults: u64,

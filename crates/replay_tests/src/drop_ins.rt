@@ -6,8 +6,8 @@ use replay_core::Status;
 use std::process::Abort;
 use test_support::{Failing, NO_FAILURE, assert_equal};
 
-/// A trace with a group of one task. The group is killed at each evaluation, unless the ruleset's
-/// post-action delay is running.
+/// A trace with a group of one task. A kill doesn't change the trace, so the rules `KILLS` kill the
+/// group again each time their post-action delay has passed.
 const LIVING: &str = "psitrace 1 cpus=1\n\
     0 group /s\n\
     0 group /s/a\n\
