@@ -160,8 +160,8 @@ def check_victims_that_are_no_groups(_: str) -> None:
 
 
 def check_limits_of_folding(program: str) -> None:
-    """A folded trace with more than the allowed number of tasks is rejected. If a folded trace is
-    longer than the original, the status is 3, with a message.
+    """A folded trace with more than the allowed number of tasks is rejected. If a folded trace has
+    more lines than the original, the status is 3, with a message.
     """
     lines = [f"0 group /g{it}\n0 fork {it + 1} /g{it} 0" for it in range(4)]
     with mock.patch.object(fold, "MOST_TASKS", 3):

@@ -86,14 +86,12 @@ pub(crate) fn take_part(bytes: &mut Vec<u8>, room: usize, most: usize, piece: &[
     count
 }
 
-// Returns whether `piece` isn't empty and the sink is full.
 pub(crate) fn finds_no_room(bytes: &[u8], room: usize, piece: &[u8]) -> bool
     ensures { IsTrue result ↔ ((0 < length piece.now) × (length bytes.now ≡ room)) }
 {
     !piece.is_empty() && bytes.len() == room
 }
 
-// Returns whether write number `call` must fail: its number is in `fails`, or the sink is full.
 fn is_failing(fails: &[u64], call: u64, is_full: bool) -> bool
     ensures { IsTrue result ↔ (Contains fails.now call ⊎ IsTrue is_full) }
 {

@@ -7,9 +7,9 @@ use test_support::{Failing, NO_FAILURE, as_text, assert_equal};
 
 const WHATIF: &str = "whatif t --rules r --tick-ms 1000 --report-s 0";
 
-/// Rules that kill a group under `/s` at each evaluation, with a post-action delay of 15 s for the
-/// ruleset. The victim is the group with the most memory, and of equal groups the first one by
-/// path.
+/// Rules that kill a child of `/s` whenever there is one, but not during the post-action delay of
+/// 15 s after a kill. The victim is the child with the most memory, and among equal children the
+/// one with the first path in byte order.
 const KILLS: &str =
     r#"{"rulesets":[{"name":"r","detectors":[["g",{"name":"exists","args":{"cgroup":"s/*"}}]],"actions":[{"name":"kill_by_memory_size_or_growth","args":{"cgroup":"s/*"}}]}]}"#;
 

@@ -13,7 +13,7 @@ pub struct ChangeCounts {
 }
 
 impl ChangeCounts {
-    /// Makes counts of no calls.
+    /// Creates the counts, all of them 0.
     pub fn new() -> ChangeCounts {
         ChangeCounts {
             counts: [AtomicU64::new(0), AtomicU64::new(0)],

@@ -15,8 +15,8 @@ pub fn one_file(rt: &impl Abort, alloc: Global, bytes: &[u8]) -> Vec<(Text, Text
     vec![in alloc; file].expect(rt, "memory")
 }
 
-/// Each row has the file and position of a read, its result, and the numbers of calls, failures and
-/// absent files after it.
+/// Each row has the file of a read and its offset (bytes), the result, and the numbers of calls,
+/// failures and reads of absent files after it.
 const READS: [(&str, u64, Result<usize, ShelfFault>, u64, u64, u64); 6] = [
     ("f", 0, Ok(2), 1, 0, 0),
     ("f", 0, Err(ShelfFault::Failed), 2, 1, 0),

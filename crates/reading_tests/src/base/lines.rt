@@ -9,8 +9,8 @@ use std::alloc::Global;
 use std::process::Abort;
 use test_support::{as_text, assert_equal};
 
-// Makes a shelf with the file `f`, which returns at most `most` bytes per call and fails at call
-// `fails`.
+// Makes a shelf with the file `f`. A read returns at most `most` bytes, and read number `fails`
+// fails.
 fn shelf_of(rt: &impl Abort, alloc: Global, bytes: &str, most: usize, fails: u64) -> MemShelf
     requires { 0 < most }
 {
