@@ -139,8 +139,9 @@ class Watcher:
         self.minute.begun += new
         self.begun += new
         self.deleted += len(gone)
-        # The service deletes old recordings when a new one ends. If the new one and the remaining
-        # ones are at least `keep`, the limit on their number has caused the deletion.
+        # A recording counts towards the limits when it ends, and `stayed` lacks the one that has
+        # just ended. If they are at least `keep` with it, the limit on their number has caused the
+        # deletion.
         if len(stayed) + 1 >= self.keep:
             self.minute.deleted_by_number += len(gone)
         else:
