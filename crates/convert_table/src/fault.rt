@@ -11,7 +11,8 @@ pub enum TableCause {
     BadHeader,
     /// The second line isn't `page SIZE HEADER` with sizes in range.
     BadPage,
-    /// The line doesn't have the form that its first word requires.
+    /// The line's first word isn't `letter` or `kind`, or the line doesn't have the form that its
+    /// first word requires.
     BadRow,
     /// The table ends without the line `end`.
     NoEnd,

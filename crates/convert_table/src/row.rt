@@ -10,7 +10,8 @@ use std::alloc::Global;
 /// The words of a line that haven't been parsed yet.
 pub(crate) type Words<'a> = Parts<'a, b' '>;
 
-/// The error for a line that doesn't have the form that its first word requires.
+/// The error for a line whose first word isn't `letter` or `kind`, or that doesn't have the form
+/// that its first word requires.
 #[derive(Clone, Copy, Debug, PartialEq, Eq)]
 pub(crate) struct BadRow;
 

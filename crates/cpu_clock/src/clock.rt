@@ -91,7 +91,7 @@ impl Clock {
     }
 
     /// Advances the clock to the time `at` (ns). From then on, the group is in the states of
-    /// `mask`. The kernel also calls `record_times` and then sets the new mask.
+    /// `mask`. In the same way, the kernel calls `record_times` and then sets the new mask.
     pub fn advance(&mut self, at: Ns, mask: Mask)
         requires { IsInTime self.old at }
         ensures { self.new ≡ advanced self.old at mask }

@@ -108,8 +108,9 @@ fn put_read<'a, K: Sink>(
     }
 }
 
-/// Writes the lines of a page, up to its first error: the number of events that were lost before
-/// it, and its own events. If a write fails, a prefix of these lines was written.
+/// Writes the lines of a page of processor `cpu`, up to the first error in the page: the number of
+/// events that were lost before it, and its own events. If a write fails, a prefix of these lines
+/// was written.
 pub fn put_page<'a, K: Sink>(
     layout: &'a Layout,
     cpu: u32,

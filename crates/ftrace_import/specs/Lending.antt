@@ -20,7 +20,9 @@ abbrev pub shown : Bool → Event → Event → Event
 shown true making other = making
 shown false making other = other
 
--- Returns the state of the iterator after `at` events were lent.
+-- `lending g at makes making other`: the state of the iterator after `at` of the events of the
+-- import `g` were lent. The current event is `making` if `makes` is true, and `other` if it is
+-- false.
 abbrev pub lending : Gathering → ℕ → Bool → Event → Event → Lending
 lending g at makes making other = record { event = shown makes making other; left = drop at (whole_events g) }
 

@@ -26,7 +26,8 @@ IsCalm tasks = (q : ℕ) → is_some_and (task_of tasks q) (λ t. t.stalled) ≡
 
 -- `Stands cpus at room w`: the invariant of a world in an import at the time `at` (ns), after which
 -- at least `room` more events are allowed. The world is legal, no task is in a memory stall, the
--- root is the only group, and the trace hasn't ended.
+-- root is the only group, and the trace hasn't ended. `at` isn't before the last event, and isn't
+-- after the latest time that the default tick allows.
 pub record Stands (cpus at room : ℕ) (w : World) : Type 0 where
   pub counted : IsCpuCount cpus
   pub legal : IsLegalWorld (limits cpus) w

@@ -27,8 +27,8 @@ pub(crate) enum Deed {
         pid: Pid,
         cpu: Cpu,
     },
-    /// The running task of processor `cpu` leaves, and the task `next` runs. If `next` is `None`,
-    /// no task runs.
+    /// The running task of processor `cpu` leaves in the way `how`, and the task `next` runs. If
+    /// `next` is `None`, no task runs afterwards. If no task was running, `how` is `Idle`.
     Switch {
         cpu: Cpu,
         next: Option<Pid>,
@@ -123,8 +123,8 @@ fn keep_migration(
     }
 }
 
-/// Appends two acts, in compact form: the task that runs on processor `from` is preempted, and then
-/// moves to processor `cpu`.
+/// Appends two acts, in compact form: the task `pid`, which runs on processor `from`, is preempted,
+/// and then moves to processor `cpu`.
 #[tactic(auto, using(crate::proofs::Keeping::two_kept))]
 fn keep_pulled(kept: &mut Vec<Kept>, at: Ns, pid: Pid, cpu: Cpu, from: Cpu) -> Result<(), NoMemory>
     ensures { Adds kept.old.items kept.new.items result at
@@ -181,8 +181,9 @@ fn runs_there(table: &Table, cpu: Cpu, pid: Option<Pid>) -> bool
     }
 }
 
-/// Appends the acts that make the running task leave processor `cpu` and the task `next` run there.
-/// The running task leaves in the way `how` if it is `previous`, and is preempted otherwise.
+/// Appends the act that makes the running task leave processor `cpu` and the task `next` run there.
+/// The running task leaves in the way `how` if it is `previous`, and is preempted otherwise. If no
+/// task runs on the processor and `next` is `None`, appends nothing.
 #[tactic(auto, using(crate::proofs::Keeping::some_part))]
 fn keep_turn(
     table: &Table,

@@ -47,8 +47,8 @@ fn unit(missing: usize) -> Ns
     }
 }
 
-/// Parses a time: seconds, a point, and 1 to 9 digits of the fraction. Returns the time (ns), or
-/// `None` if the word isn't a time.
+/// Parses a time: 1 to 10 digits of seconds, a point, and 1 to 9 digits of the fraction. Returns
+/// the time (ns), or `None` if the word isn't a time.
 #[tactic(auto, unfolding(import_spec::specs::Tails::time_of))]
 fn time_of(word: &[u8]) -> Option<Ns>
     ensures { result ≡ time_of word.now }
@@ -143,7 +143,7 @@ pub(crate) fn cpu_in(head: &[u8]) -> Option<u32>
 
 /// Parses the field after the last occurrence of `key` in `part`, a tail or a part of a tail. The
 /// field ends at the next space. Returns `None` if `key` doesn't occur, or if the field isn't a
-/// number below 2^32.
+/// number below 2^32 with at most 10 digits.
 #[tactic(auto, unfolding(import_spec::specs::Tails::field_in))]
 pub(crate) fn field_in(part: &[u8], key: &[u8]) -> Option<u32>
     requires some { 0 < length key.now }

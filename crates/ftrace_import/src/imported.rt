@@ -157,9 +157,9 @@ impl Imported {
     }
 }
 
-/// Imports the ftrace text in a file, and returns an iterator that lends its events. Fails with
-/// `Refused` at the first rejected line, with the first reason for rejecting it. Allocates about 24
-/// bytes for each event.
+/// Imports the ftrace text in a file, for a machine with 1 to 64 processors (`cpus`). Returns an
+/// iterator that lends its events. Fails with `Refused` at the first rejected line, with the first
+/// reason for rejecting it. Allocates about 24 bytes for each event.
 pub fn read_import<S: Shelf>(
     alloc: Global,
     shelf: &mut S,

@@ -3,8 +3,8 @@
 //! contract is the law.
 ghost use Rattle.ftrace_import.specs.Laws.{ImportedIsTrace, LinesAreWritten, SwitchRunsNext, WakeupWakes};
 
-/// The imported trace of each text is accepted, with the default tick, by every program that
-/// accepts version 1.
+/// If a text is accepted by the import, every program that accepts version 1 accepts the imported
+/// trace, with the default tick.
 pub fn law_imported()
     ensures { ImportedIsTrace }
 {}

@@ -155,8 +155,8 @@ fn read_marked(line: &[u8], found: Found) -> Result<Option<Sighting>, ImportCaus
     }
 }
 
-/// Parses the time and the content of a line. Returns `None` if the line isn't marked, and fails
-/// with `BadLine` if the line is marked but malformed.
+/// Parses the time and the content of a line. Returns `None` if the line begins with `#` or has no
+/// mark. Fails with `BadLine` if any other line is malformed.
 pub(crate) fn read_line(line: &[u8]) -> Result<Option<Sighting>, ImportCause>
     ensures { result ≡ read_line line.now }
 {

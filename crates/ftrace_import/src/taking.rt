@@ -77,7 +77,7 @@ fn make_task(kept: &[Kept]) -> bool
 
 /// Returns the first reason why a line is rejected, or `None` if the line is accepted. The line has
 /// the acts `kept` and the trace time `moment` (ns), and names processor `cpu`. `table` is the
-/// table of tasks before the line.
+/// table of tasks before the line, and `cpus` is the number of processors.
 fn acts_cause(table: &Table, cpus: u32, moment: Ns, cpu: Cpu, kept: &[Kept]) -> Option<ImportCause>
     ensures { result ≡ acts_cause cpus table.now.world moment cpu (acts_in kept.now) }
 {

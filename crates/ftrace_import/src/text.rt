@@ -1,5 +1,5 @@
-//! Imports an ftrace text from a file on a shelf (the trait for input files). The module `marked`
-//! parses the lines, and `taking` collects their events.
+//! Imports an ftrace text from a file in the file store (`Shelf`). The module `marked` parses the
+//! lines, and `taking` collects their events.
 ghost use Rattle.std.specs.Prelude.{◌≡◌, ◌+◌, ◌≤◌, ℕ, List, [], IfOk, IsErrOf, MatchResult, Some, None, Ok, true, false};
 ghost use Rattle.outside.specs.Outside.{content_of, IsAbsent, counts_of};
 ghost use Rattle.outside.specs.Reads.{ReadsFile};
@@ -28,7 +28,7 @@ pub enum ImportFault {
     /// A line was rejected. `cause` is the first reason for rejecting it. Lines are numbered from
     /// 1.
     Refused { line: u32, cause: ImportCause },
-    /// The shelf (the access to files) has no file with this name.
+    /// The file store (`Shelf`) has no file with this name.
     NoFile,
     /// A read failed.
     ReadFault,
@@ -213,8 +213,8 @@ fn take_lines<S: Shelf>(
 /// Reads the ftrace text in a file and collects its events, for a machine with 1 to 64 processors.
 /// Reads at most 16,000,000 lines, and checks that the file has no further bytes.
 ///
-/// Returns `NoFile` or `ReadFault` only if the shelf counted a missing file or a failed read during
-/// this call.
+/// Returns `NoFile` or `ReadFault` only if the file store (`Shelf`) counted a missing file or a
+/// failed read during this call.
 pub fn gather<S: Shelf>(
     alloc: Global,
     shelf: &mut S,
@@ -243,8 +243,9 @@ pub fn gather<S: Shelf>(
     }
 }
 
-/// Imports the ftrace text in a file, and returns its events, including the end of the trace. Fails
-/// with `Refused` at the first rejected line, with the first reason for rejecting it.
+/// Imports the ftrace text in a file, for a machine with 1 to 64 processors (`cpus`). Returns its
+/// events, including the end of the trace. Fails with `Refused` at the first rejected line, with
+/// the first reason for rejecting it.
 ///
 /// No program of this repository calls this function. The programs call
 /// [`read_import`](crate::read_import), which lends the same events one by one and needs a third of

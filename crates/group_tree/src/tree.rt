@@ -73,7 +73,7 @@ impl Tree {
     }
 
     /// Returns all groups ever created, indexed by slot. The field `gone` is the time (ns) at which
-    /// the group was removed.
+    /// the group was removed, or `None` if the group is live.
     pub fn lives(&self) -> &[GroupLife]
         ensures lives { result.now ≡ self.now }
         ensures groups { AreGroups result.now }

@@ -30,7 +30,8 @@ pub(crate) enum Part<'a> {
 /// The unit of the second word of a time: 2^27 ns, because the first word has the lower 27 bits.
 const UNIT: u64 = 1 << 27;
 
-/// The upper bound (exclusive) of an absolute time (ns): absolute times have 59 bits.
+/// The unit (2^59 ns) of the bits that an absolute time in a page lacks: a page stores only its
+/// lower 59 bits. The higher bits are those of the time before it.
 const RANGE: u64 = 1 << 59;
 
 // Decodes a part with a second word, which is at the start of `after`. `kind` and `amount` are the

@@ -37,7 +37,7 @@ pub record AreFour (bytes : List ℕ) (place number : ℕ) : Type 0 where
   pub value : number ≡ a * 1000 + b * 100 + c * 10 + d
 
 -- `BeginsWithEvent bytes event rest`: the bytes are the line of the event with its newline,
--- followed by `rest`. The event's verb exists in every version.
+-- followed by `rest`. The event's values are in range, and its verb exists in every version.
 pub record BeginsWithEvent (bytes : List ℕ) (event : Event) (rest : List ℕ) : Type 0 where
   pub fits : Fits event
   pub known : IsKnown first_verbs event
@@ -52,7 +52,7 @@ pub record BeginsWithTaskAct (bytes : List ℕ) (act : TaskAct) (rest : List ℕ
   pub begins : (at : ℕ) → at < 2 ^ 64 → BeginsWithEvent (decimal at ++ 32 ∷ bytes) (as_event at act) rest
 
 -- `BeginsBufferWith bytes event count`: the bytes begin with the line of the event, which has
--- `count` bytes before its newline.
+-- `count` bytes (at most 512) before its newline.
 pub record BeginsBufferWith (bytes : List ℕ) (event : Event) (count : ℕ) : Type 0 where
   pub begins : BeginsWithEvent bytes event (drop (count + 1) bytes)
   pub inside : count < length bytes
@@ -60,7 +60,8 @@ pub record BeginsBufferWith (bytes : List ℕ) (event : Event) (count : ℕ) : T
 
 -- `TakesPrefix Before After bytes played`: the bytes begin with the line of an event, which has
 -- `played.count` bytes before its newline. `played.answer` is the result that a player (a consumer
--- of events) returned for the event.
+-- of events) returned for the event. `Before` and `After` hold for the events that the player
+-- processed before and after the call.
 pub record TakesPrefix (Before After : Plays) (bytes : List ℕ) (played : PlayedLine) : Type 0 where
   pub event : Event
   pub prefix : BeginsBufferWith bytes event played.count

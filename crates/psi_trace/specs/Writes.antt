@@ -9,7 +9,8 @@ abbrev pub spaced : List (List ℕ) → List ℕ
 spaced [] = []
 spaced (text ∷ words) = 32 ∷ text ++ spaced words
 
--- Whether an event has few words and no path, so that its line fits in a `ShortLine`.
+-- Whether an event has no path and isn't `host` (with its three long numbers), so that its line
+-- fits in a `ShortLine`.
 abbrev pub is_short : Act → Bool
 is_short (act.Wake pid cpu) = true
 is_short (act.Switch cpu next how) = true

@@ -17,8 +17,8 @@ pub struct Header {
     pub cpus: u32,
 }
 
-// Returns the version in a header, and the bytes for the number of processors. Returns `None` if
-// the line doesn't begin like a header of version 1 or 2.
+// Returns the version in a header, and the bytes after `cpus=`. Returns `None` if the line doesn't
+// begin like a header of version 1 or 2.
 fn version_in(line: &[u8]) -> Option<(u32, &[u8])>
     ensures { MatchOption result
         ((version n : ℕ) → IsVersion version → line.now ≢ header version n)

@@ -14,7 +14,7 @@ pub(crate) struct LineBuffer<const ROOM: usize> {
     start: usize,
 }
 
-/// A header, or the line of an event with few words and no path. The longest such line is a
+/// A header, or the line of an event without a path, other than `host`. The longest such line is a
 /// `switch`, with the time, the verb, the processor, the next task and the way in which the
 /// previous task leaves.
 pub(crate) type ShortLine = LineBuffer<80>;

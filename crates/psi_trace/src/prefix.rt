@@ -144,8 +144,9 @@ fn number_before(bytes: &[u8], end: u8) -> Option<(u64, &[u8])>
     ended_by(bytes, number, count, end)
 }
 
-// Parses a time (ns) that is followed by a space. Returns the time and the bytes after the space.
-// The digits are parsed in groups of four, because most times have many digits.
+// Parses a time (ns) of at most 19 digits that is followed by a space. Returns the time and the
+// bytes after the space, or `None`. The digits are parsed in groups of four, because most times
+// have many digits.
 #[inline(always)]
 fn time_before(bytes: &[u8]) -> Option<(Ns, &[u8])>
     ensures { IfSome result (λ found. bytes.now ≡ decimal found.0 ++ 32 ∷ found.1.now) }
@@ -156,7 +157,7 @@ fn time_before(bytes: &[u8]) -> Option<(Ns, &[u8])>
 }
 
 // Parses a number below 2^32 that is followed by the byte `end`. Returns the number and the bytes
-// after `end`.
+// after `end`, or `None`.
 #[inline(always)]
 fn small_before(bytes: &[u8], end: u8) -> Option<(u32, &[u8])>
     ensures { IfSome result (λ found. bytes.now ≡ decimal found.0 ++ end ∷ found.1.now) }
@@ -168,7 +169,7 @@ fn small_before(bytes: &[u8], end: u8) -> Option<(u32, &[u8])>
 }
 
 // Parses a pid (at least 1) that is followed by the byte `end`. Returns the pid and the bytes after
-// `end`.
+// `end`, or `None`.
 #[inline(always)]
 fn pid_before(bytes: &[u8], end: u8) -> Option<(Pid, &[u8])>
     ensures { IfSome result (λ found. IsPid found.0
@@ -181,7 +182,7 @@ fn pid_before(bytes: &[u8], end: u8) -> Option<(Pid, &[u8])>
 }
 
 // Parses the number of a processor that is followed by the byte `end`. Returns the number and the
-// bytes after `end`.
+// bytes after `end`, or `None`.
 #[inline(always)]
 fn cpu_before(bytes: &[u8], end: u8) -> Option<(Cpu, &[u8])>
     ensures { IfSome result (λ found. (found.0.0 < 2 ^ 32)
@@ -229,7 +230,7 @@ fn how_before_newline(bytes: &[u8]) -> Option<(How, &[u8])>
 
 // Each of the next five functions parses the fields of one verb. It returns the task act (an event
 // without its time that concerns only tasks) and the bytes after the newline. It returns `None` if
-// the bytes don't begin with the verb's fields and a newline.
+// the bytes don't begin with the verb's fields and a newline, or if a switch is an exit.
 
 #[inline(always)]
 fn switch_in(fields: &[u8]) -> Option<(TaskAct, &[u8])>
@@ -281,8 +282,8 @@ fn migrate_in(fields: &[u8]) -> Option<(TaskAct, &[u8])>
 }
 
 // Parses the verb and the fields of a task act (an event without its time that concerns only
-// tasks). Returns the task act and the bytes after the newline, or `None` if the bytes don't begin
-// with a task act.
+// tasks). Returns the task act and the bytes after the newline. Returns `None` if the bytes don't
+// begin with one of the five verbs and its fields, or if a switch is an exit.
 #[inline(always)]
 fn task_act_in(bytes: &[u8]) -> Option<(TaskAct, &[u8])>
     ensures { IfSome result (λ found. BeginsWithTaskAct bytes.now found.0 found.1.now) }

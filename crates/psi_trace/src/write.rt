@@ -11,7 +11,8 @@ use crate::line::{LongLine, ShortLine};
 use crate::word::{put_account, put_number, put_numbers, put_word};
 use psi_base::{Act, Cpu, Event, How, Level, NoMemory, Path, Pid, Preference, Res};
 
-/// Whether an event has few words and no path, so that its line fits in a `ShortLine`.
+/// Whether an event has no path and isn't `host` (with its three long numbers), so that its line
+/// fits in a `ShortLine`.
 fn is_short(act: &Act) -> bool
     ensures { result ≡ is_short act.now }
 {

@@ -33,8 +33,8 @@ const MASKS: [u8; 128] = [
 ];
 
 // Returns the index in `MASKS` for the task counts of a group. `on_cpu` is whether the processor's
-// running task is in the group, and `current_stalled` is whether it is in a memory stall. The index
-// is computed without branches, because a processor would often mispredict them.
+// running task is in the group, and `current_stalled` is whether this task is in a memory stall.
+// The index is computed without branches, because a processor would often mispredict them.
 fn place(counts: &Counts, on_cpu: bool, current_stalled: bool) -> usize
     ensures place { result ≡ place_by counts.now on_cpu current_stalled }
     ensures within { result < 128 }

@@ -38,7 +38,8 @@ abbrev pub path_cause : Bool → Option Cause
 path_cause lacks_group = if lacks_group then Some cause.UnknownGroup else None
 
 -- `fork_cause cpus lacks_group live task cpu`: the first cause for rejecting a fork of a task on
--- processor `cpu`. `live` is the number of live tasks. `task` is the live task that already has the
+-- processor `cpu`. `cpus` is the number of processors, and `live` is the number of live tasks.
+-- `lacks_group` is whether no live group has the path. `task` is the live task that already has the
 -- new pid, or `None`.
 abbrev pub fork_cause : ℕ → Bool → ℕ → Option Task → ℕ → Option Cause
 fork_cause cpus lacks_group live task cpu =
@@ -47,8 +48,8 @@ fork_cause cpus lacks_group live task cpu =
     if is_some task then Some cause.TaskExists else
     if nat_le cpus cpu then Some cause.BadCpu else None
 
--- `wake_cause cpus task cpu`: the first cause for rejecting a wakeup of `task` on processor `cpu`.
--- The causes are: no such task, no such processor, or a task that isn't blocked.
+-- `wake_cause cpus task cpu`: the first cause for rejecting a wakeup of `task` on processor `cpu`,
+-- one of `cpus` processors. The causes are: no such task, no such processor, or a task that isn't blocked.
 abbrev pub wake_cause : ℕ → Option Task → ℕ → Option Cause
 wake_cause cpus task cpu =
     if not (is_some task) then Some cause.UnknownTask else
@@ -64,8 +65,8 @@ how_cause how running =
     if is_exit how && is_some_and (task_part running) (λ task. task.stalled) then Some cause.InStall else None
 
 -- `next_cause cpus cpu next task`: the first cause for rejecting that `task` with the pid `next`
--- starts on processor `cpu`. The causes are: no such task, no such processor, or a task that isn't
--- ready there.
+-- starts on processor `cpu`. The causes are: no such task, no such processor (`cpus` is the number
+-- of processors), or a task that isn't ready there.
 abbrev pub next_cause : ℕ → ℕ → Option Pid → Option Task → Option Cause
 next_cause cpus cpu None task = if nat_le cpus cpu then Some cause.BadCpu else None
 next_cause cpus cpu (Some pid) task =
@@ -73,8 +74,9 @@ next_cause cpus cpu (Some pid) task =
     if nat_le cpus cpu then Some cause.BadCpu else
     if not (is_some_and task (is_ready_on cpu)) then Some cause.NotReady else None
 
--- `switch_cause cpus cpu next task how running`: the first cause for rejecting a context switch.
--- The next task is checked first, and then the way in which the running task leaves the processor.
+-- `switch_cause cpus cpu next task how running`: the first cause for rejecting a context switch on
+-- processor `cpu`. The next task is checked first (`next_cause`), and then the way `how` in which
+-- the task `running` leaves the processor (`how_cause`).
 abbrev pub switch_cause : ℕ → ℕ → Option Pid → Option Task → How → Option (ℕ × Task) → Option Cause
 switch_cause cpus cpu next task how running = or_cause (next_cause cpus cpu next task) (how_cause how running)
 
@@ -95,23 +97,25 @@ unstall_cause task =
     if is_some_and task (λ task. not task.stalled) then Some cause.NotInStall else None
 
 -- `migrate_cause cpus task cpu`: the first cause for rejecting a migration of `task` to processor
--- `cpu`. The causes are: no such task, no such processor, or a task that isn't ready.
+-- `cpu`. The causes are: no such task, no such processor (`cpus` is the number of processors), or a
+-- task that isn't ready.
 abbrev pub migrate_cause : ℕ → Option Task → ℕ → Option Cause
 migrate_cause cpus task cpu =
     if not (is_some task) then Some cause.UnknownTask else
     if nat_le cpus cpu then Some cause.BadCpu else
     if is_some_and task (λ task. not (is_ready task.mode)) then Some cause.NotReady else None
 
--- `move_cause lacks_group task`: the first cause for rejecting a move of `task` to another group.
--- The causes are: no such group, or no such task.
+-- `move_cause lacks_group task`: the first cause for rejecting a move of `task` to a group.
+-- `lacks_group` is whether no live group has the path. The causes are: no such group, or no such
+-- task.
 abbrev pub move_cause : Bool → Option Task → Option Cause
 move_cause lacks_group task =
     if lacks_group then Some cause.UnknownGroup else
     if not (is_some task) then Some cause.UnknownTask else None
 
 -- `trigger_cause lacks_group triggers threshold window`: the first cause for rejecting a new
--- trigger. The causes are: 256 triggers exist already, no such group, or a threshold or window (us)
--- out of range.
+-- trigger. The causes are: `triggers`, the number of earlier triggers, is 256; no such group
+-- (`lacks_group`); or a threshold or window (us) out of range.
 abbrev pub trigger_cause : Bool → ℕ → ℕ → ℕ → Option Cause
 trigger_cause lacks_group triggers threshold window =
     if nat_le 256 triggers then Some cause.TooManyTriggers else
@@ -119,7 +123,8 @@ trigger_cause lacks_group triggers threshold window =
     if not (is_window threshold window) then Some cause.BadWindow else None
 
 -- `irq_cause cpus irqs at cpu ns`: the first cause for rejecting an `irq` line at the time `at`
--- (ns). The causes are: no such processor, or an interrupt time `ns` (ns) that is too long.
+-- (ns). The causes are: no such processor, or an interrupt time `ns` (ns) that is too long. `irqs`
+-- has the time (ns) of each processor's last `irq` line.
 abbrev pub irq_cause : ℕ → List ℕ → ℕ → Cpu → ℕ → Option Cause
 irq_cause cpus irqs at cpu ns =
     if nat_le cpus cpu.0 then Some cause.BadCpu else
@@ -133,7 +138,9 @@ account_cause groups pressures path = if nat_le most_pressures pressures then So
 
 -- `act_cause cpus groups tasks irqs triggers pressures at act`: the first cause for rejecting the
 -- event `act` at the time `at` (ns). The checks that apply to every event, such as the check of its
--- time, aren't included.
+-- time, aren't included. `cpus` is the number of processors, `irqs` has the time (ns) of each
+-- processor's last `irq` line, and `triggers` and `pressures` are the numbers of earlier triggers
+-- and `pressure` lines.
 abbrev pub act_cause : ℕ → List GroupLife → Tasks → List ℕ → ℕ → ℕ → ℕ → Act → Option Cause
 act_cause cpus groups tasks irqs triggers pressures at (act.Group path) = add_cause groups path
 act_cause cpus groups tasks irqs triggers pressures at (act.Remove path) = empty_cause groups tasks path
@@ -173,8 +180,8 @@ line_cause limits w at =
     if nat_lt limits.latest at then Some cause.TimeTooLate else
     if nat_le most_events w.lines then Some cause.TooManyEvents else None
 
--- `event_cause limits w event`: the first cause for rejecting an event. The causes that depend only
--- on its time are checked before the causes that depend on what the event does.
+-- `event_cause limits w event`: the first cause for rejecting an event. The causes that don't depend
+-- on what the event does (`line_cause`) are checked first.
 abbrev pub event_cause : Limits → World → Event → Option Cause
 event_cause limits w event =
     or_cause (line_cause limits w event.at) (act_cause limits.cpus w.groups w.tasks w.irqs w.triggers w.pressures event.at event.act)

@@ -56,7 +56,7 @@ abbrev pub slot_or_root : Option Slot → Slot
 slot_or_root group = unwrap_or group (record { 0 = 0 })
 
 -- `named_slot groups act`: the slot of the live group whose path the event `act` names, or the
--- root's slot if the event names no path.
+-- root's slot if the event names no path or there is no such group.
 abbrev pub named_slot : List GroupLife → Act → Slot
 named_slot groups a = slot_with groups (names a).live_path
 
@@ -85,7 +85,9 @@ change_for at changed running irq cpu =
     record { at = at; minus = part cpu changed.old; plus = part cpu changed.new; current = shown running; irq = irq; account = None }
 
 -- `touched_change at changed running cpu`: the number and the change of processor `cpu` for an
--- event that reports no interrupt time. `None` if `cpu` is `None`.
+-- event at the time `at` (ns) that reports no interrupt time. `None` if `cpu` is `None`. `changed`
+-- is the task that the event changes, and `running` has each processor's running task after the
+-- event.
 abbrev pub touched_change : ℕ → TaskUpdate → List (Option (ℕ × Task)) → Option Cpu → Option (Cpu × Change)
 touched_change at changed running None = None
 touched_change at changed running (Some cpu) = Some (cpu, change_for at changed (slice_index_or running cpu.0 None) 0 cpu.0)

@@ -307,9 +307,10 @@ fn irq_refused(irqs: &[Ns], cpus: usize, at: Ns, cpu: Cpu, ns: u64) -> Option<Ca
 
 /// Returns the first cause for rejecting `event`, or `None` if it is legal. The checks that apply
 /// to every event, such as the check of its time, aren't made here. Precondition: the event isn't a
-/// task event (`TaskAct`). `irqs` has the time (ns) of each processor's last `irq` line. `named` is
-/// the task with the pid that the event names, and `group` is the slot of the live group with the
-/// path that the event names.
+/// task event (`TaskAct`). `running` has the running task of each processor, and `irqs` the time
+/// (ns) of its last `irq` line. `triggers` and `pressures` are the numbers of earlier triggers and
+/// `pressure` lines. `named` is the task with the pid that the event names, and `group` is the slot
+/// of the live group with the path that the event names.
 #[inline(always)]
 pub(crate) fn act_refused(
     tree: &Tree,

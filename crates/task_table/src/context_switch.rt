@@ -42,7 +42,8 @@ fn left(how: How, task: Task) -> Option<Task>
     }
 }
 
-/// Removes the running task from its processor.
+/// Makes the running task of processor `cpu` leave in the way `how`, and returns the task before and
+/// after that. A task that exits is removed. Changes nothing if no task is running there.
 #[inline(always)]
 fn switch_out(
     tasks: &mut TaskMap,
@@ -85,7 +86,8 @@ fn switch_out(
     }
 }
 
-/// Starts a ready task on an idle processor.
+/// Starts the ready task with the pid `next` and the state `task` on processor `cpu`, which idles.
+/// Does nothing if `next` is `None`.
 #[inline(always)]
 fn switch_in(
     tasks: &mut TaskMap,
@@ -119,8 +121,9 @@ fn switch_in(
     running[cpu as usize] = Some((pid.0, after));
 }
 
-/// Performs a legal context switch on processor `cpu`. `next` and `task` are the pid and the state
-/// of the next task, or `None` if the processor idles after the switch.
+/// Performs a legal context switch on processor `cpu`. The running task leaves in the way `how`.
+/// `next` and `task` are the pid and the state of the next task, or `None` if the processor idles
+/// after the switch. Returns the task that leaves, before and after the switch.
 #[inline(always)]
 pub(crate) fn switch(
     tasks: &mut TaskMap,

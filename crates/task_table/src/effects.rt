@@ -236,7 +236,7 @@ fn add_group(tree: &mut Tree, members: &mut Members, path: &Path, at: Ns) -> Res
 
 /// Applies a legal event to the tasks. Precondition: the event isn't a task event (`TaskAct`).
 /// `named` is the task with the pid that the event names, and `slot` is the slot of the group that
-/// the event names. Only a fork allocates; if memory runs out, no task changes.
+/// the event names, or the root's slot. Only a fork allocates; if memory runs out, no task changes.
 #[inline(always)]
 pub(crate) fn change_tasks(
     tasks: &mut TaskMap,

@@ -32,8 +32,9 @@ impl Members {
         Ok(Members { counts })
     }
 
-    /// Extends the list to `groups` groups. The added groups have no tasks. Fails with `NoMemory`
-    /// if memory runs out.
+    /// Adds an entry, if necessary, so that the list has at least `groups` entries. The added group
+    /// has no tasks. Precondition: `groups` is at most one more than the number of entries. Fails
+    /// with `NoMemory` if memory runs out.
     pub(crate) fn cover(&mut self, groups: usize) -> Result<(), NoMemory>
         requires { groups ≤ length self.old + 1 }
         ensures same { (slot : ℕ) →

@@ -49,8 +49,8 @@ fn part_on(cpu: Cpu, task: Option<Task>) -> Option<(Slot, Counts)>
     }
 }
 
-/// Returns the slot of the running task's group, and whether that task is in a memory stall, or
-/// `None` if the processor idles.
+/// Returns the slot of the group of the task that runs on processor `cpu`, and whether that task is
+/// in a memory stall. Returns `None` if the processor idles.
 pub(crate) fn current_on(running: &[Running], cpu: Cpu) -> Option<(Slot, bool)>
     ensures { result ≡ shown (slice_index_or running.now cpu.0 None) }
 {
@@ -171,7 +171,8 @@ pub(crate) fn cpu_of(task: Option<Task>) -> Option<Cpu>
 }
 
 /// Returns the number and the change of processor `cpu`, or `None` if `cpu` is `None`. `changed` is
-/// the task that an event changes, and `running` has the running tasks after the event.
+/// the task that an event at the time `at` (ns) changes, and `running` has the running tasks after
+/// the event.
 #[inline(always)]
 pub(crate) fn touched_change(
     at: Ns,

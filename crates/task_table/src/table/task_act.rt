@@ -207,8 +207,8 @@ impl Table {
     }
 
     /// Performs the legal task event `act` at the time `at` (ns), and returns the changes that the
-    /// event causes on processors. Has the same effect as [`Table::perform`] for this event, but
-    /// doesn't allocate.
+    /// event causes on processors. `finding` is the result of [`Table::judge_task`] for this event.
+    /// Has the same effect as [`Table::perform`], but doesn't allocate.
     #[inline(always)]
     pub fn perform_task(&mut self, at: Ns, act: TaskAct, finding: Finding) -> Touch
         requires { IsFinding self.old (as_event at act) finding }
