@@ -90,9 +90,9 @@ fn no_times(alloc: Global, count: usize) -> Result<Vec<Times>, NoMemory>
     Ok(vec![in alloc; [0u64; TIMES]; count]?)
 }
 
-/// Laws of the table of times. Setting the times of a group on a processor doesn't change the size
-/// of the table. Afterwards the table has these times for this group and processor, and unchanged
-/// times for all others.
+/// Laws of the table of times. A new table has the requested size, and setting the times of a group
+/// on a processor doesn't change the size. Afterwards the table has these times for this group and
+/// processor, and unchanged times for all others.
 pub fn law_rows()
     ensures sizes { KeepsSizes }
     ensures places { SetsOnePlace }

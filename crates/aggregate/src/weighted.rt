@@ -26,7 +26,7 @@ const PLACES: [usize; QUANTITIES] = [0, 1, 2, 3, 4, 5, 7];
 /// Returns a group's shares (ns) in an interval: one for each state except nonidle, and one for
 /// interrupt time. A share is the weighted mean, over all processors, of the group's time in the
 /// interval. `deltas` has these times (ns) for each processor. The weight of a processor is the
-/// group's nonidle time on it in whole milliseconds.
+/// group's nonidle time on it in whole milliseconds. If all weights are 0, all shares are 0.
 pub fn share(deltas: &[Times]) -> Amounts
     requires few { length deltas.now ≤ 64 }
     requires short { All (AreTimesWithin longest_tick (longest_tick + longest_irq)) deltas.now }

@@ -145,13 +145,14 @@ abbrev pub new_reader : PlanView → ℕ → ReaderView
 new_reader plan count = record { plan = plan; seen = count; loads = 0; met = 0; got = []; first = 0; second = 0; attempt = Closed }
 
 -- Returns the view of a reader that the writer creates. The reader has seen all changes that the
--- writer has applied.
+-- writer has applied. Returns `Spent` for a view that isn't a writer's.
 abbrev pub reader_of : View → View
 reader_of (Writer writer) = Reader (new_reader writer.plan writer.count)
 reader_of view = Spent
 
--- Returns the view of a message that the owner of a handle creates. The message contains the number
--- of changes that the writer has applied or that the reader has seen.
+-- Returns the view of a message that the writer or a reader creates. The message contains the
+-- number of changes that the writer has applied or that the reader has seen. Returns `Spent` for
+-- any other view.
 abbrev pub note_of : View → View
 note_of (Writer writer) = Noted record { plan = writer.plan; number = writer.count }
 note_of (Reader reader) = Noted record { plan = reader.plan; number = reader.seen }
@@ -233,7 +234,8 @@ EndKeeps = (slots id first : ℕ) (me : Sitter) (reader : ReaderView) (loaded : 
     → reader.attempt ≡ Open first loaded →
     Allows HoldsRule slots id me 0 (λ number. number) (EndsTry (step slots 0 0 0 none) me)
 
--- Law of step 8: the owner of a handle may create a reader or a message.
+-- Law of step 8: the owner of a handle may create a handle with the view that `reader_of` or
+-- `note_of` returns for its own view.
 abbrev pub SplitKeeps : Type 0
 SplitKeeps = (id : ℕ) (view : View) → Splits HoldsRule id view view (reader_of view) × Splits HoldsRule id view view (note_of view)
 

@@ -86,6 +86,7 @@ fn fill<S: Shelf>(shelf: &mut S, name: &str, bytes: &mut [u8]) -> Result<usize, 
 /// Returns the bytes of a file, or its first `most` bytes if the file is longer. Allocates memory
 /// for `most` bytes before reading. Reads at most `most` bytes, even if the call fails. Fails with
 /// `NoFile` or `ReadFault` if the file store (`Shelf`) reports this fault and counts it.
+/// Precondition: `most` is at least 1.
 pub fn read_prefix<S: Shelf>(
     alloc: Global,
     shelf: &mut S,

@@ -81,8 +81,8 @@ fn matches_components(pattern: &[u8], path: &[u8]) -> bool
     found.next_part().is_none()
 }
 
-/// Returns whether a single pattern matches a path. Both arguments are texts, such as
-/// `/system.slice/*`.
+/// Returns whether a single pattern matches a path. `pattern` is the text of a pattern, such as
+/// `/system.slice/*`, and `path` is the text of a path.
 #[tactic(auto, unfolding(crate::specs::Match::components))]
 pub fn matches_pattern(pattern: &[u8], path: &[u8]) -> bool
     ensures { result ≡ are_matches (components pattern.now) (components path.now) }

@@ -4,7 +4,8 @@
 ghost use Rattle.path_match.specs.Laws.{PathMatchesItself, ReadAgain, ReadsPatterns, RootAlone, SlashIsFree, StarMatchesAny, TestShows};
 
 /// Laws of matching. The Boolean test agrees with the relation. The pattern of the root matches
-/// only the root, a path as a pattern matches only itself, and a star matches every component.
+/// only the root, a path as a pattern matches itself and no other path, and a star matches every
+/// component.
 pub fn law_matching()
     ensures shows { TestShows }
     ensures root { RootAlone }

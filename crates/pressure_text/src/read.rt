@@ -76,8 +76,9 @@ impl<'a> Rest<'a> {
         }
     }
 
-    // Consumes the digits at the start, and returns their number. Returns `None` if there are no
-    // digits, if there is a leading zero (except in `0`), or if the number doesn't fit in 64 bits.
+    // Consumes the digits at the start, and returns the number that they spell. Returns `None` if
+    // there are no digits, if there is a leading zero (except in `0`), or if the number doesn't fit
+    // in 64 bits.
     #[tactic(auto, unfolding(crate::specs::FileRead::number_at))]
     fn number(&mut self) -> Option<u64>
         ensures { TakesPiece result self.new (number_at self.old) }
@@ -88,8 +89,8 @@ impl<'a> Rest<'a> {
         Some(number)
     }
 
-    // Consumes two digits, and returns their number. Returns `None` if the bytes don't begin with
-    // two digits.
+    // Consumes two digits, and returns the number that they spell. Returns `None` if the bytes don't
+    // begin with two digits.
     #[tactic(auto, unfolding(crate::specs::FileRead::two_at))]
     fn two_digits(&mut self) -> Option<u32>
         ensures found { TakesPiece result self.new (two_at self.old) }

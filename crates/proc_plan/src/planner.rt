@@ -138,6 +138,7 @@ impl Planner {
     /// Adds the next event: checks the event, reserves memory for everything that it adds to the
     /// plans, and appends it. Fails with `Refused` and the first cause if the event is illegal, or
     /// with `NoMemory` if memory runs out for a legal event. The planner is unchanged on failure.
+    /// Precondition: the event's values are in the ranges of the trace format.
     #[inline(always)]
     pub fn take(&mut self, event: &Event) -> Result<(), Fault<Cause>>
         requires { Fits event.now }

@@ -92,7 +92,8 @@ impl Plans {
     }
 
     /// Splits a trace with `cpus` processors (1 to 64). `latest` is the latest time (ns) that an
-    /// event may have.
+    /// event may have. Precondition: all values in the events are in the ranges of the trace
+    /// format.
     ///
     /// Fails with `Refused` at the first illegal event, with the first cause for rejecting it. The
     /// event with index `i` (from 0) is reported at line `i + 2`. If all events are legal but the

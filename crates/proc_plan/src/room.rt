@@ -170,7 +170,8 @@ pub(crate) fn make_room(
 }
 
 // Returns the change of a processor for an event at the time `at` (ns) that turns a group's
-// accounting on or off. `current` is the running task of the processor.
+// accounting on or off. `current` is the running task of the processor. `account` is the slot of
+// the group, and whether its accounting is on afterwards.
 fn account_change(at: Ns, current: Option<(Slot, bool)>, account: (Slot, bool)) -> Change
     ensures change { result ≡ account_change at current account }
     ensures one { IsOfOne result }

@@ -98,7 +98,8 @@ fn group_of(task: Option<Task>) -> Option<Slot>
 }
 
 // Returns the side events of a task that moves from group `old` to group `new` at the time `at`
-// (ns): the task leaves `old` and joins `new`. There is no side event if the groups are the same.
+// (ns): the task leaves `old` and joins `new`. `old` is `None` if the task is created, and `new` is
+// `None` if it exits. There is no side event if the groups are the same.
 fn passage(at: Ns, old: Option<Slot>, new: Option<Slot>) -> (Option<Side>, Option<Side>)
     ensures sides { listed result.0 ++ listed result.1 ≡ passage at old new }
     ensures first { IfSome result.0 (λ side. IsSmall side.what) }

@@ -123,8 +123,8 @@ Begins lives watch = (limits : Limits) (events : List Event) → AreLegal limits
     lives ≡ (after events).groups → HasFollowed events None watch
 
 -- Advances a watch to time `at` (ns). `sides` has the side events of a legal list of events, and
--- `old` has the state after the events up to an earlier time. Then `new` has the state after the
--- events up to `at`.
+-- `old` has the state after the events up to a time that isn't after `at`. Then `new` has the state
+-- after the events up to `at`.
 abbrev pub Advances : SideView → SideView → List Side → ℕ → Type 0
 Advances old new sides at = (limits : Limits) (events : List Event) (moment : Option ℕ) →
     AreLegal limits first_world events → sides ≡ sides_of events →

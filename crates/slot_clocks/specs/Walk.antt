@@ -123,7 +123,7 @@ IsApart None slot = Unit {0}
 IsApart (Some account) slot = slot ≢ account.0.0
 
 -- `IsOnWith account slot old new`: if the change turns the group's accounting on or off, the field
--- `on` has the new value. All other fields are unchanged.
+-- `on` has the new value; otherwise it is unchanged. The counts and the clock are unchanged.
 pub record IsOnWith (account : Option (Slot × Bool)) (slot : ℕ) (old new : Cell) : Type 0 where
   pub counts : new.counts ≡ old.counts
   pub on : new.on ≡ on_with slot old.on account

@@ -5,8 +5,8 @@
 //! 0 for the root.
 //!
 //! [`SlotClocks`] corresponds to the kernel's `psi_group_cpu` of all groups on one processor. A
-//! change is applied to the groups on its chains. A chain is a slot and its ancestors. The kernel
-//! also calls `psi_group_change` for a task's group and for each ancestor.
+//! *chain* is a slot and its ancestors. A change affects up to four chains, and is applied to each
+//! group on them, as the kernel calls `psi_group_change` for a task's group and for each ancestor.
 //!
 //! The crate doesn't derive changes from a trace: proc_plan does.
 #![tactic(auto)]

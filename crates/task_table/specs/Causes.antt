@@ -180,8 +180,8 @@ line_cause limits w at =
     if nat_lt limits.latest at then Some cause.TimeTooLate else
     if nat_le most_events w.lines then Some cause.TooManyEvents else None
 
--- `event_cause limits w event`: the first cause for rejecting an event. The causes that don't depend
--- on what the event does (`line_cause`) are checked first.
+-- `event_cause limits w event`: the first cause for rejecting an event. The causes that don't
+-- depend on what the event does (`line_cause`) are checked first.
 abbrev pub event_cause : Limits → World → Event → Option Cause
 event_cause limits w event =
     or_cause (line_cause limits w event.at) (act_cause limits.cpus w.groups w.tasks w.irqs w.triggers w.pressures event.at event.act)

@@ -42,8 +42,8 @@ fn left(how: How, task: Task) -> Option<Task>
     }
 }
 
-/// Makes the running task of processor `cpu` leave in the way `how`, and returns the task before and
-/// after that. A task that exits is removed. Changes nothing if no task is running there.
+/// Makes the running task of processor `cpu` leave in the way `how`, and returns the task before
+/// and after that. A task that exits is removed. Changes nothing if no task is running there.
 #[inline(always)]
 fn switch_out(
     tasks: &mut TaskMap,

@@ -93,8 +93,9 @@ abbrev pub AreWatchesWithin : ℕ → List TriggerWatch → Type 0
 AreWatchesWithin slots watches = All (λ watch. IsTriggerWithin last_moment slots watch.spec) watches
 
 -- The invariant of the engine. The numbers of processors, groups and triggers are within their
--- limits. The table of the last tick has the right size. Each total is at most the time of the last
--- tick. The triggers are legal.
+-- limits. The table of the last tick has the right size. The total of each state is at most the
+-- time of the last tick, and the total of interrupt time is at most the sum of the group's
+-- interrupt times on all processors (`AreGroupsWithin`). The triggers are legal.
 pub record IsEngine (engine : EngineView) : Type 0 where
   pub few_cpus : engine.cpus ≤ 64
   pub few_groups : length engine.groups ≤ most_groups

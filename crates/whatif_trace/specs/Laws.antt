@@ -13,7 +13,8 @@ WithoutIsAccepted =
     (limits : Limits) (events : List Event) (at victim : ℕ) → limits.cpus ≤ most_cpus → IsAccepted limits events
     → length (without events at victim) ≤ most_events → IsAccepted limits (without events at victim)
 
--- After the events by which the killed group's tasks exit, none of these tasks is live.
+-- For a kill before the end of an accepted trace, if not too many events remain: after the events
+-- by which the killed group's tasks exit, none of these tasks is live.
 abbrev pub ExitsLeaveNone : Type 0
 ExitsLeaveNone =
     (limits : Limits) (events : List Event) (at victim : ℕ) → IsAccepted limits events → at < (after events).last
@@ -25,7 +26,8 @@ ExitsLeaveNone =
 -- Compares the scheduler states (`World`) of the new and the original trace, after each prefix of
 -- the events that follow the exits. The state of the new trace is the state of the original trace
 -- without the tasks that are dead after that prefix. Only the number of lines and the time of the
--- last event may differ.
+-- last event may differ. The kill must be before the end of an accepted trace, and the result must
+-- not have too many events.
 abbrev pub WorldsWithout : Type 0
 WorldsWithout =
     (limits : Limits) (events : List Event) (at victim : ℕ) → IsAccepted limits events → at < (after events).last

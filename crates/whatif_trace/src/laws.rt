@@ -10,10 +10,10 @@ pub fn law_without()
     ensures { WithoutIsAccepted }
 {}
 
-/// After the events by which the killed group's tasks exit, none of these tasks is live. After each
-/// later event of the original trace, the scheduler state of the new trace is the state of the
-/// original trace without these tasks. Only the number of lines and the time of the last event may
-/// also differ.
+/// For a kill before the end of an accepted trace, if not too many events remain: after the events
+/// by which the killed group's tasks exit, none of these tasks is live. After each later event of
+/// the original trace, the scheduler state of the new trace is the state of the original trace
+/// without these tasks. Only the number of lines and the time of the last event may also differ.
 pub fn law_worlds_without()
     ensures exits { ExitsLeaveNone }
     ensures worlds { WorldsWithout }

@@ -60,7 +60,7 @@ fn add_forked(
 }
 
 /// Returns the pids of the live tasks in the group `victim` and in its descendants. Precondition:
-/// one of `events` creates each live task.
+/// each live task was created by a `fork` event in `events`.
 pub(crate) fn members(
     alloc: Global,
     table: &Table,

@@ -127,7 +127,7 @@ fn keep_all_exits(
 
 /// Returns the events of `prefix` and `rest`, without the tasks that are in the group `victim` or
 /// in one of its descendants after `prefix`. These tasks exit at time `at` (ns), between the two
-/// lists.
+/// lists. `table` has all tasks after `prefix`, and `runners` the running task of each processor.
 fn left_of(
     alloc: Global,
     table: &Table,
@@ -203,8 +203,8 @@ fn all_left(
 /// time `at` (ns). The result has the events up to that time, the exits of these tasks 1 ns later,
 /// and the later events without these tasks. If `at` isn't before the end of the trace, the result
 /// has all events. Precondition: the trace is accepted, has 1 to 64 processors, and has no event
-/// later than `latest` (ns). Fails with `TooLarge` if and only if more than 4,000,000 events
-/// remain, and with `NoMemory` if memory runs out.
+/// later than `latest` (ns). Fails with `TooLarge` if more than 4,000,000 events remain, or with
+/// `NoMemory` if memory runs out before that is known.
 pub fn without(
     alloc: Global,
     cpus: u32,

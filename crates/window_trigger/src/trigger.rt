@@ -57,9 +57,10 @@ impl Model for Trigger {
 }
 
 /// Returns the estimated growth (ns) of a total in the sliding window. Precondition: the current
-/// window hasn't expired. The estimate is the growth since the start of the current window, plus
-/// the part of the previous window's growth that corresponds to the remaining time. The
-/// intermediate product needs up to 89 bits.
+/// window hasn't expired. The estimate is `growth`, the growth since the start of the current
+/// window, plus a part of `previous`, the growth in the previous window. The part is the remaining
+/// time (`size - elapsed`) divided by the length `size` of a window. The intermediate product needs
+/// up to 89 bits.
 fn slid(growth: u64, previous: u64, size: Ns, elapsed: Ns) -> u64
     requires growth { growth ≤ last_moment }
     requires previous { previous ≤ last_moment }
