@@ -53,7 +53,6 @@ impl Totals {
     }
 }
 
-/// Adds each share to the total with the same index.
 fn add_each(sums: &mut Amounts, shares: &Amounts)
     requires { AreAmountsWithin last_moment most_irq_total (model.plus sums.old shares.now) }
     ensures { sums.new ≡ model.plus sums.old shares.now }

@@ -109,7 +109,6 @@ fn add_weighted(sums: &mut Amounts, times: &Times, weight: u64)
     }
 }
 
-/// Divides each sum by `divisor`, rounding down.
 fn divide(sums: &mut Amounts, divisor: u64)
     requires { 0 < divisor }
     ensures { sums.new ≡ map (λ sum. sum / divisor) sums.old }

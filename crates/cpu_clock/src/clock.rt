@@ -66,7 +66,7 @@ impl Clock {
     }
 
     /// Returns the time (ns) that the group was in `state` up to the time `at` (ns). Precondition:
-    /// the clock can be advanced to `at`.
+    /// `at` isn't before the clock's start, nor after the latest time of a trace.
     fn opened_time(&self, at: Ns, state: State) -> u64
         requires { IsInTime self.now at }
         ensures { result ≡ opened_time self.now at state }
@@ -76,9 +76,9 @@ impl Clock {
     }
 
     /// Returns the time (ns) that the group was in each state up to the time `at` (ns), ordered by
-    /// state. The time since the clock's start counts for the states in the mask. Precondition: the
-    /// clock can be advanced to `at`. The kernel's `get_recent_times` does the same, and then
-    /// subtracts the times of its last call.
+    /// state. The time since the clock's start counts for the states in the mask. Precondition:
+    /// `at` isn't before the clock's start, nor after the latest time of a trace. The kernel's
+    /// `get_recent_times` does the same, and then subtracts the times of its last call.
     pub fn opened(&self, at: Ns) -> [u64; 7]
         requires { IsInTime self.now at }
         ensures { result ≡ opened self.now at }
@@ -92,6 +92,7 @@ impl Clock {
 
     /// Advances the clock to the time `at` (ns). From then on, the group is in the states of
     /// `mask`. In the same way, the kernel calls `record_times` and then sets the new mask.
+    /// Precondition: `at` isn't before the clock's start, nor after the latest time of a trace.
     pub fn advance(&mut self, at: Ns, mask: Mask)
         requires { IsInTime self.old at }
         ensures { self.new ≡ advanced self.old at mask }

@@ -1,5 +1,5 @@
 //! Writes events and numbers of lost events as lines of text. In a text, a space, a backslash or a
-//! byte that isn't printable is written as an escape.
+//! byte that isn't printable is written as an escape: a backslash and three octal digits.
 ghost use Rattle.std.specs.Prelude.{◌≡◌, ◌≤◌, ◌<◌, ◌++◌, true, codes, decimal, length};
 ghost use Rattle.outside.specs.Outside.{HasCause, SameInner};
 ghost use Rattle.outside.specs.Calls.{PutsAll};
@@ -19,8 +19,8 @@ fn is_plain(byte: u8) -> bool
     32 < byte && byte < 127 && byte != b'\\'
 }
 
-// Writes one byte of a text. A space, a backslash or a byte that isn't printable is written as an
-// escape, and any other byte unchanged.
+// Writes one byte of a text. A space, a backslash or a byte that isn't printable is written as a
+// backslash and three octal digits, and any other byte unchanged.
 fn put_byte<K: Sink>(out: &mut K, byte: u8) -> Result<(), WriteFailed>
     ensures bytes { PutsAll (K.has out.old) (K.has out.new) result (byte_text byte) }
     ensures cause { HasCause (K.faults out.old) (K.faults out.new) result }

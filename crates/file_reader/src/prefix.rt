@@ -45,7 +45,6 @@ impl From<NoMemory> for FileFault {
     }
 }
 
-// Allocates `count` zero bytes.
 fn zeros(alloc: Global, count: usize) -> Result<Vec<u8>, NoMemory>
     ensures { IfOk result (λ bytes. length bytes.items ≡ count) }
 {

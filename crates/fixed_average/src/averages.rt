@@ -14,7 +14,7 @@ use pressure_spec::{Amounts, AverageRows, QUANTITIES};
 use psi_base::{Ns, State};
 use std::marker::Model;
 
-/// The time between two updates of the averages (ns).
+/// The length of a period (ns). The averages are updated at the first tick after each period.
 const PERIOD: Ns = 2_000_000_000;
 
 /// The index of interrupt time among the quantities that have averages.

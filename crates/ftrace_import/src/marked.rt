@@ -91,7 +91,7 @@ fn switch_in(cpu: u32, tail: &[u8]) -> Option<Seen>
     })
 }
 
-/// Parses the tail of a wakeup. Returns `None` if the tail is malformed.
+/// Parses the tail of a wakeup. Returns `None` if the tail is malformed or names the pid 0.
 #[tactic(auto, unfolding(import_spec::specs::Marked::wakeup_in))]
 fn wakeup_in(tail: &[u8]) -> Option<Seen>
     ensures { result ≡ wakeup_in tail.now }
@@ -105,7 +105,7 @@ fn wakeup_in(tail: &[u8]) -> Option<Seen>
     })
 }
 
-/// Parses the tail of a migration. Returns `None` if the tail is malformed.
+/// Parses the tail of a migration. Returns `None` if the tail is malformed or names the pid 0.
 #[tactic(auto, unfolding(import_spec::specs::Marked::migration_in))]
 fn migration_in(tail: &[u8]) -> Option<Seen>
     ensures { result ≡ migration_in tail.now }

@@ -134,7 +134,6 @@ fn needed_cpu(seen: Seen) -> Cpu
     }
 }
 
-/// Returns `first`, or `at` if `first` is `None` (both in ns).
 fn time_or(first: Option<Ns>, at: Ns) -> Ns
     ensures { result ≡ unwrap_or first at }
 {
@@ -152,7 +151,6 @@ fn moment_of(first: Ns, moment: Ns, at: Ns) -> Ns
     moment.max(at.saturating_sub(first))
 }
 
-/// Returns the stored events from index `before`.
 fn kept_from(kept: &Vec<Kept>, before: usize) -> &[Kept]
     requires { before ≤ length kept.now.items }
     ensures { result.now ≡ drop before kept.now.items }

@@ -5,7 +5,6 @@ ghost use Rattle.psi_spec.specs.World.{or_root, parent_path};
 
 use psi_base::Path;
 
-// Returns `bytes`, or the root's path if `bytes` is empty.
 fn or_root(bytes: &[u8]) -> &[u8]
     ensures { result.now ≡ or_root bytes.now }
 {

@@ -39,7 +39,8 @@ fn uncount_child(children: &mut [u32], parent: Option<Slot>)
     }
 }
 
-/// Appends a group, and returns its slot. If memory runs out, the tree is unchanged.
+/// Appends the live group `life`, whose path is `text`, and returns its slot. If memory runs out,
+/// the tree is unchanged.
 pub(crate) fn push_group(
     lives: &mut Vec<GroupLife>,
     slots: &mut HashMap<String, Slot>,
@@ -70,7 +71,8 @@ pub(crate) fn push_group(
     Ok(slot)
 }
 
-/// Removes the live group with the path `path` at the time `at` (ns). Does not allocate.
+/// Removes the live group with the path `path`, which is in `slot`, at the time `at` (ns). Does not
+/// allocate.
 pub(crate) fn end_group(
     lives: &mut Vec<GroupLife>,
     slots: &mut HashMap<String, Slot>,

@@ -58,7 +58,6 @@ fn letter(letters: &[StateLetter], state: u64) -> u8
         .map_or(b'R', |row| row.letter)
 }
 
-// Returns the index of the first zero byte, or `None` if no byte is zero.
 fn zero_place(bytes: &[u8]) -> Option<usize>
     ensures { result ≡ position (λ byte. byte == 0) bytes.now }
 {

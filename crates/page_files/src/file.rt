@@ -32,7 +32,6 @@ pub enum FileStop {
     WriteFault,
 }
 
-// Converts the fault of a failed read to a `FileStop`.
 fn read_stop(fault: ShelfFault) -> FileStop
     ensures { result ≡ stop_of_read fault }
 {
@@ -57,8 +56,9 @@ fn page_stop(page: u64, stop: PageStop) -> FileStop
 }
 
 /// Writes the lines of all pages of a file, up to the first error. Each line names the processor
-/// `cpu`. Bytes after the last whole page are ignored. `page` is memory for one page. No byte is read twice, and nothing is read after a
-/// page with an error. If a read or a write fails, a prefix of the lines was written.
+/// `cpu`. Bytes after the last whole page are ignored. `page` is memory for one page. No byte is
+/// read twice, and nothing is read after a page with an error. If a read or a write fails, a prefix
+/// of the lines was written.
 pub fn put_file<S: Shelf, K: Sink>(
     shelf: &mut S,
     name: &str,

@@ -19,7 +19,6 @@ fn is_pattern_byte(c: u8) -> bool
     c.is_ascii_alphanumeric() || matches!(c, b'_' | b'.' | b'@' | b':' | b'-' | b'\\' | b'*')
 }
 
-// Returns whether a component of a pattern may contain all these bytes.
 fn are_pattern_bytes(part: &[u8]) -> bool
     ensures { result ≡ list_all is_pattern_byte part.now }
 {

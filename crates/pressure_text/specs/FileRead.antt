@@ -34,8 +34,8 @@ two_at (tens ∷ ones ∷ bytes) =
     if is_ascii_digit tens && is_ascii_digit ones
     then Some ((tens - 48) * 10 + (ones - 48), bytes) else None
 
--- The average at the start, in hundredths of a percent, and the remaining bytes. `None` if the bytes
--- don't begin with a number that has two decimals, or if the number is above 100.00 percent.
+-- The average at the start, in hundredths of a percent, and the remaining bytes. `None` if the
+-- bytes don't begin with a number that has two decimals, or if the number is above 100.00 percent.
 unfoldable pub average_at : List ℕ → Option (ℕ × List ℕ)
 average_at bytes = do
   whole ← number_at bytes

@@ -89,8 +89,8 @@ impl<'a> Rest<'a> {
         Some(number)
     }
 
-    // Consumes two digits, and returns the number that they spell. Returns `None` if the bytes don't
-    // begin with two digits.
+    // Consumes two digits, and returns the number that they spell. Returns `None` if the bytes
+    // don't begin with two digits.
     #[tactic(auto, unfolding(crate::specs::FileRead::two_at))]
     fn two_digits(&mut self) -> Option<u32>
         ensures found { TakesPiece result self.new (two_at self.old) }

@@ -13,7 +13,6 @@ use cpu_clock::Clock;
 use psi_base::Ns;
 use state_mask::{Counts, Mask, mask_of};
 
-/// Counts of tasks that are all zero.
 pub(crate) const NO_COUNTS: Counts = Counts {
     io: 0,
     stalled: 0,

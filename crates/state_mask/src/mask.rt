@@ -27,7 +27,6 @@ impl Model for Mask {
     ghost inverse = { λ bits. record { 0 = bits } };
 }
 
-/// Returns the bit of a state in a mask.
 fn bit(state: State) -> u8
     ensures { result ≡ 2 ^ state_number state }
 {

@@ -49,7 +49,8 @@ fork_cause cpus lacks_group live task cpu =
     if nat_le cpus cpu then Some cause.BadCpu else None
 
 -- `wake_cause cpus task cpu`: the first cause for rejecting a wakeup of `task` on processor `cpu`,
--- one of `cpus` processors. The causes are: no such task, no such processor, or a task that isn't blocked.
+-- one of `cpus` processors. The causes are: no such task, no such processor, or a task that isn't
+-- blocked.
 abbrev pub wake_cause : ℕ → Option Task → ℕ → Option Cause
 wake_cause cpus task cpu =
     if not (is_some task) then Some cause.UnknownTask else

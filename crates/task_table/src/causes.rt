@@ -131,7 +131,8 @@ pub(crate) fn wake_refused(task: Option<Task>, cpus: usize, cpu: u32) -> Option<
 }
 
 /// Returns the first cause for rejecting the start of the next task on processor `cpu`, or `None`
-/// if the task can start. If `next` is `None`, only the processor number is checked.
+/// if the task can start. `task` is the live task with the pid `next`, and `cpus` is the number of
+/// processors. If `next` is `None`, only the processor number is checked.
 #[inline(always)]
 fn next_refused(next: Option<Pid>, task: Option<Task>, cpus: usize, cpu: u32) -> Option<Cause>
     ensures { result ≡ next_cause cpus cpu next task }
@@ -290,8 +291,8 @@ fn account_refused(tree: &Tree, pressures: u32, path: &Path) -> Option<Cause>
 }
 
 /// Returns the cause for rejecting an `irq` line at the time `at` (ns), or `None` if the line is
-/// legal. The line states that interrupts took `ns` (ns) on processor `cpu`. `irqs` has the time
-/// (ns) of each processor's last `irq` line.
+/// legal. The line states that interrupts took `ns` (ns) on processor `cpu`, one of `cpus`
+/// processors. `irqs` has the time (ns) of each processor's last `irq` line.
 fn irq_refused(irqs: &[Ns], cpus: usize, at: Ns, cpu: Cpu, ns: u64) -> Option<Cause>
     ensures { result ≡ irq_cause cpus irqs.now at cpu ns }
 {

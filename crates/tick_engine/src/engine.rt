@@ -77,7 +77,8 @@ fn watches_of(alloc: Global, triggers: &[TriggerSpec]) -> Result<Vec<TriggerWatc
 
 impl Engine {
     /// Creates an engine for the groups `lives` (indexed by slot) and these triggers, on `cpus`
-    /// processors (1 to 64), before the first tick. Allocates all memory that the engine ever needs.
+    /// processors (1 to 64), before the first tick. Allocates all memory that the engine ever
+    /// needs.
     pub fn make(
         alloc: Global,
         lives: &[GroupLife],

@@ -13,7 +13,6 @@ use psi_base::{Act, Event, How, NoMemory, Ns, Pid};
 use psi_spec::{Mode, Task};
 use task_table::Table;
 
-/// Returns whether the task is ready or running.
 fn is_active(mode: Mode) -> bool
     ensures { result ≡ is_active mode }
 {

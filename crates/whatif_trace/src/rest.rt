@@ -53,8 +53,9 @@ fn doer(act: &Act) -> Option<Pid>
 }
 
 /// Appends what remains of a switch on processor `cpu` when the dead (killed) tasks are removed:
-/// one event or none. `leaving` is the task that is switched out, or `None` if the processor was
-/// idle.
+/// one event or none. In the original trace, `leaving` is switched out in the way `how` (or is
+/// `None` if the processor was idle), and `next` is switched in. If `leaving` is dead, the way in
+/// the new trace is `Idle`.
 #[tactic(auto, using(crate::proofs::Kept::none_kept))]
 fn keep_switch(
     kept: &mut Vec<Event>,

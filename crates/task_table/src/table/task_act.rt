@@ -48,8 +48,9 @@ fn named_task(tasks: &TaskMap, act: TaskAct) -> Option<Task>
     }
 }
 
-/// Returns the first cause for rejecting a task event, or `None` if the event is legal. `named` is
-/// the task with the pid that the event names.
+/// Returns the first cause for rejecting a task event, or `None` if the event is legal. The checks
+/// that apply to every event aren't made here. `running` has the running task of each processor,
+/// and `named` is the task with the pid that the event names.
 #[inline(always)]
 fn act_refused(running: &[Running], act: TaskAct, named: Option<Task>) -> Option<Cause>
     ensures { (groups : List GroupLife) (tasks : Tasks) (irqs : List ℕ)
