@@ -66,7 +66,7 @@ impl Clock {
     }
 
     /// Returns the time (ns) that the group was in `state` up to the time `at` (ns). Precondition:
-    /// `at` isn't before the clock's start, nor after the latest time of a trace.
+    /// the same as for [`Clock::opened`].
     fn opened_time(&self, at: Ns, state: State) -> u64
         requires { IsInTime self.now at }
         ensures { result ≡ opened_time self.now at state }
@@ -76,9 +76,11 @@ impl Clock {
     }
 
     /// Returns the time (ns) that the group was in each state up to the time `at` (ns), ordered by
-    /// state. The time since the clock's start counts for the states in the mask. Precondition:
-    /// `at` isn't before the clock's start, nor after the latest time of a trace. The kernel's
+    /// state. The time since the clock's start counts for the states in the mask. The kernel's
     /// `get_recent_times` does the same, and then subtracts the times of its last call.
+    ///
+    /// Precondition: `at` isn't before the clock's start, and neither `at` nor the clock's times
+    /// are greater than the latest time of a trace.
     pub fn opened(&self, at: Ns) -> [u64; 7]
         requires { IsInTime self.now at }
         ensures { result ≡ opened self.now at }
@@ -92,7 +94,7 @@ impl Clock {
 
     /// Advances the clock to the time `at` (ns). From then on, the group is in the states of
     /// `mask`. In the same way, the kernel calls `record_times` and then sets the new mask.
-    /// Precondition: `at` isn't before the clock's start, nor after the latest time of a trace.
+    /// Precondition: the same as for [`Clock::opened`].
     pub fn advance(&mut self, at: Ns, mask: Mask)
         requires { IsInTime self.old at }
         ensures { self.new ≡ advanced self.old at mask }
@@ -103,7 +105,8 @@ impl Clock {
     }
 
     /// Applies a change of the clock's processor at the time `at` (ns), from which the group is in
-    /// the states of `mask`. If the mask stays the same, the clock stays the same.
+    /// the states of `mask`. If the mask stays the same, the clock stays the same. Precondition:
+    /// the same as for [`Clock::opened`].
     ///
     /// So if the clock is correct for a group before a change, and `mask` has the group's states
     /// after it, the clock is also correct after the change. See [`plan_laws::law_plan_clocks`].

@@ -14,7 +14,8 @@ use pressure_spec::{Amounts, AverageRows, QUANTITIES};
 use psi_base::{Ns, State};
 use std::marker::Model;
 
-/// The length of a period (ns). The averages are updated at the first tick after each period.
+/// The length of a period (ns). An update of the averages is due at the first tick at or after the
+/// end of a period.
 const PERIOD: Ns = 2_000_000_000;
 
 /// The index of interrupt time among the quantities that have averages.

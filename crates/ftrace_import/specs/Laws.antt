@@ -20,8 +20,8 @@ use Rattle.import_spec.specs.Marked.{read_line}
 use Rattle.import_spec.specs.Events.{LineEvents, Reached, default_tick, events_of_line, unreached}
 use Rattle.import_spec.specs.Import.{import_of, import_trace}
 
--- If a text is accepted by the import, every program that accepts version 1 accepts the imported
--- trace, with the default tick.
+-- If the import accepts a text for 1 to 64 processors, every program that accepts version 1 accepts
+-- the imported trace, with the default tick.
 abbrev pub ImportedIsTrace : Type 0
 ImportedIsTrace =
     (cpus : ℕ) (bytes : List ℕ) (events : List Event) (versions : List Version) → IsCpuCount cpus → import_of cpus bytes ≡ Ok events

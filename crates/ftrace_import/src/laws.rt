@@ -3,8 +3,8 @@
 //! contract is the law.
 ghost use Rattle.ftrace_import.specs.Laws.{ImportedIsTrace, LinesAreWritten, SwitchRunsNext, WakeupWakes};
 
-/// If a text is accepted by the import, every program that accepts version 1 accepts the imported
-/// trace, with the default tick.
+/// If the import accepts a text for 1 to 64 processors, every program that accepts version 1
+/// accepts the imported trace, with the default tick.
 pub fn law_imported()
     ensures { ImportedIsTrace }
 {}

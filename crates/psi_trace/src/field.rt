@@ -1,6 +1,6 @@
 //! Parses the fields of an event line. Each function takes the next word of the line and parses it
-//! as one kind of value, such as a pid or a path. `index` is the number of the field, from 1. A
-//! function fails with `BadField(index)` if the word is missing or malformed.
+//! as one kind of value, such as a pid or a path. `index` is the number of the field, from 1. The
+//! functions fail with `BadField(index)` if the word is missing or malformed.
 //!
 //! The functions don't depend on the verb of the line: `read` calls the functions that fit each
 //! verb.

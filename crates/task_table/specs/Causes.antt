@@ -124,8 +124,9 @@ trigger_cause lacks_group triggers threshold window =
     if not (is_window threshold window) then Some cause.BadWindow else None
 
 -- `irq_cause cpus irqs at cpu ns`: the first cause for rejecting an `irq` line at the time `at`
--- (ns). The causes are: no such processor, or an interrupt time `ns` (ns) that is too long. `irqs`
--- has the time (ns) of each processor's last `irq` line.
+-- (ns). The causes are: no such processor (`cpus` is the number of processors), or an interrupt
+-- time `ns` (ns) of more than a second or of more than the time since the processor's last `irq`
+-- line. `irqs` has the time (ns) of each processor's last `irq` line.
 abbrev pub irq_cause : ℕ → List ℕ → ℕ → Cpu → ℕ → Option Cause
 irq_cause cpus irqs at cpu ns =
     if nat_le cpus cpu.0 then Some cause.BadCpu else
