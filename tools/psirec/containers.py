@@ -67,7 +67,9 @@ def part_of(value: Any, key: str) -> Any:
 
 
 def names_of(value: dict[str, Any]) -> Iterator[tuple[str, str]]:
-    """Yields the identifier and the name of each container and pod."""
+    """Yields the identifiers and names in `value`, the JSON object of one container or pod. The
+    object of a container may also name its pod.
+    """
     own, labels = value.get("metadata"), value.get("labels") or value.get("Labels")
     number = first_text(value.get("id"), value.get("Id"), value.get("ID"))
     name = first_text(part_of(own, "name"), value.get("Names"), value.get("Name")).lstrip("/")

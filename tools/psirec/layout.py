@@ -76,13 +76,13 @@ class Key:
     EVENT = "event"  # `SYSTEM/EVENT`, an event that was switched on
     NO_EVENT = "no-event"  # `SYSTEM/EVENT: REASON`, an event that couldn't be switched on
     NO_PROBE = "no-probe"  # `DEFINITION: REASON`, a probe that couldn't be added
-    RING = "ring"  # the trigger of a flight recorder, whose buffers are overwritten on purpose
+    RING = "ring"  # the trigger of a flight recorder, or `none`
     RING_GROUP = "ring-group"  # the escaped path of the group that the trigger watches
     RING_START = "ring-start"  # the time (s) since which the events of all processors are complete
     FIRED = "fired"  # the time (s) at which the trigger signalled pressure
     STATS = "stats"  # `cpuN LINE`, a line of `per_cpu/cpuN/stats` at the end
     SECONDS = "seconds"  # the length of the recording (s)
-    BYTES = "bytes"  # the size of all pages (bytes)
+    BYTES = "bytes"  # the size of all pages (bytes), before they are compressed
     PROCESSOR_SECONDS = "cpu-seconds"  # `user S sys S`, the processor time that the recorder used
     COMPRESSING = "compress-seconds"  # the processor time (s) that compressing took
     LEFT = "left"  # a change of the machine that couldn't be undone

@@ -31,8 +31,8 @@ class Lines:
         return Key.RING in self.values
 
     def lost(self, line: str) -> dict[int, int]:
-        """Returns the number of lost events of each processor, from the lines of `stats` with the
-        name `line`.
+        """Returns the number of lost events of each processor that lost any, from the lines of
+        `stats` with the name `line`.
         """
         form = re.compile(rf"cpu([0-9]{{1,5}}) {line}: ([0-9]{{1,19}})")
         found = (form.fullmatch(it) for it in self.all(Key.STATS))

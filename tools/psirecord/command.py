@@ -114,8 +114,9 @@ def prepare(
 
 
 def say_machine(folder: Folder, machine: Machine, wanted: Wanted) -> None:
-    """Writes the machine's name, its processors and its time zone, and the difference between the
-    time of day and event times.
+    """Writes the machine's name, the number of its processors, its time zone, and the time by both
+    clocks: the time of day, and the clock of the events. Also writes the trigger of a flight
+    recorder.
     """
     before, realtime, after = time.monotonic(), time.time(), time.monotonic()
     folder.say(Key.UNAME, " ".join(os.uname()))
@@ -173,7 +174,7 @@ def record(
 
 def check_statistics(machine: Machine, sources: Sources, folder: Folder, ending: Ending) -> None:
     """Prints a warning if the kernel's scheduler statistics were switched off during the recording,
-    perhaps by another recorder. In this case waits for IO seem shorter than they were.
+    perhaps by another recorder. In this case the recording lacks some waits for IO.
     """
     if sources.waits == BY_STATISTICS and statistics_of(machine) != Statistics.ON:
         what = "kernel.sched_schedstats was switched off meanwhile, so waits for IO are missing"

@@ -3,7 +3,7 @@ lowest priority.
 
 The recorder writes pages in parts, and the compressor replaces each complete part by a gzip file.
 If the machine is too busy for that, the recording temporarily needs more disk space, but nothing is
-late or lost. After a recorder was killed, the remaining parts can be read.
+late or lost. If the recorder is killed, the parts that aren't compressed yet are still readable.
 """
 from __future__ import annotations
 
@@ -20,7 +20,7 @@ from psirec.layout import PACKED
 
 from .waiting import ENDING
 
-# The compression level, from 1 to 9. Level 1 saves the most bytes per processor time.
+# The compression level, from 1 to 9. Level 1 saves the most bytes per second of processor time.
 LEVEL = 1
 LEAST_PRIORITY = 19
 # The time (s) between two searches for complete parts.
@@ -55,9 +55,9 @@ class Compressor:
 
 
 def serve(folder: int, line: int) -> None:
-    """Compresses complete parts until the other end of the pipe `line` is closed, and then the
-    remaining parts. Ignores the signals that end a recording, since the recorder handles these
-    signals. Closes all files that were inherited from the recorder.
+    """Compresses complete parts in the open folder `folder` until the other end of the pipe `line`
+    is closed, and then the remaining parts. Ignores the signals that end a recording, since the
+    recorder handles these signals. Closes all files that were inherited from the recorder.
     """
     for number in ENDING:
         signal.signal(number, signal.SIG_IGN)

@@ -2,8 +2,9 @@
 nothing is lost if the recorder is killed.
 
 A recording shows which programs run on a machine, and contains addresses of its kernel, so only its
-owner may read it. All files are opened through the descriptor of the folder. During the recording,
-the owner of the parent folder may rename it and put something else in its place.
+owner may read it. All files are opened through the descriptor of the folder, since during the
+recording the owner of the parent folder may rename the recording's folder and put something else in
+its place.
 """
 from __future__ import annotations
 
@@ -160,7 +161,9 @@ class Folder:
             os.close(file)
 
     def open_raw(self, processors: int) -> None:
-        """Creates a file for the pages of each processor, or its first part."""
+        """Creates a file for the pages of each processor. In a compressed recording, this file is
+        the first part.
+        """
         for processor in range(processors):
             if self.compressor:
                 self.begin_part(processor)

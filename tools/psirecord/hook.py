@@ -20,8 +20,8 @@ OTHERS_WRITE = stat.S_IWGRP | stat.S_IWOTH
 
 
 def why_not(path: str) -> str | None:
-    """Returns the reason why the recorder, which is root, refuses to run this program. Returns None
-    if it may run.
+    """Returns the reason why the recorder, which is root, refuses to run the program at `path`.
+    Returns None if the recorder runs it.
     """
     if not os.path.isabs(path):
         return "it must be a whole path, since a service has no working directory"
@@ -49,8 +49,8 @@ def make_ordinary() -> None:
 
 
 def wait_for(child: subprocess.Popen[bytes], signals: Signals) -> str | None:
-    """Waits for the end of the hook. Returns how the hook failed, or why it was terminated. Returns
-    None if it succeeded.
+    """Waits for the end of the hook. Terminates it after MOST_SECONDS, or if a signal was received,
+    and then returns the reason. Returns None if the hook ended by itself, with any exit status.
     """
     waiting, end = Waiting(signals), time.monotonic() + MOST_SECONDS
     while child.poll() is None:

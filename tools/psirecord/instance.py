@@ -84,7 +84,8 @@ class Instance:
 
     def enable_all(self, sources: Sources, say: Say, tell: Tell) -> list[str]:
         """Switches on the available events, and returns their names. Reports each unavailable
-        event, and what the recording lacks without it.
+        event, and what the recording lacks without it. Raises NotRecorded if nothing can be
+        recorded without it.
         """
         events = []
         for event in sources.events:
@@ -131,7 +132,7 @@ class Instance:
         return True
 
     def note_mark(self, word: str) -> None:
-        """Writes a marker that consists of a single word."""
+        """Writes a marker that consists of MARK and `word`."""
         self.mark(f"{MARK}{word}")
 
     def pages(self, processor: int, most_bytes: float) -> Iterator[bytes]:
@@ -200,7 +201,7 @@ def remover(remove: Callable[[str], None], name: str) -> Callable[[], None]:
 
 def remove_leftovers(machine: Machine, tell: Tell) -> None:
     """Removes the tracing instances and probes that killed recorders left on the machine. Their
-    names contain the pid of a process that no longer exists.
+    names contain the pid and the start time of a process that no longer runs.
     """
 
     def is_left(found: re.Match[str]) -> bool:

@@ -1,8 +1,8 @@
 """Looks up, in the kernel's type information (BTF), the offsets of the members of a structure, and
 the number of a function's parameters. Documentation/bpf/btf.rst describes the format.
 
-Only a few names are needed from its 10 MB. A search for a name's bytes takes a tenth of a second,
-while a walk over all types takes seconds on a slow machine.
+The recorder needs a few names out of some 10 MB. A search for a name's bytes takes a tenth of a
+second, while a walk over all types takes seconds on a slow machine.
 """
 from __future__ import annotations
 
@@ -28,10 +28,10 @@ class Place:
     width: int
 
     def fetch(self, argument: int, plain_type: str) -> str:
-        """Returns the words with which a probe fetches this member
-        (Documentation/trace/kprobetrace.rst). The function's argument with the number `argument`
-        points to the structure. `plain_type` is the type, such as `s32`, of a member that isn't a
-        bit field.
+        """Returns the expression with which a probe fetches this member
+        (Documentation/trace/kprobetrace.rst). `argument` is the number, from 1, of the probed
+        function's argument that points to the structure. `plain_type` is the type, such as `s32`,
+        of a member that isn't a bit field.
         """
         if not self.width:
             return f"+{self.bit // 8}($arg{argument}):{plain_type}"
@@ -54,9 +54,9 @@ class KernelTypes:
                 self.strings = header + strings
 
     def named(self, name: str, kind: int) -> Iterator[int]:
-        """Yields the positions at which a type with this name and kind may begin. Each name occurs
-        once among the strings. Other bytes can look like a type, so the caller must try each
-        position.
+        """Yields the offsets in `data` at which a type with this name and kind may begin. Each name
+        occurs once among the strings. Other bytes can look like a type, so the caller must try each
+        offset.
         """
         found = self.data.find(b"\0" + name.encode() + b"\0", self.strings)
         if self.strings == 0 or found < 0:
@@ -86,8 +86,9 @@ class KernelTypes:
         return {}
 
     def member(self, place: int, has_widths: bool, wanted: tuple[str, ...]) -> tuple[str, Place]:
-        """Returns the name and position of the member at `place`. The name is empty if the member
-        isn't wanted.
+        """Returns the name and position of the member whose entry is at the offset `place` of
+        `data`. The name is empty if the member isn't wanted. `has_widths` says whether the entries
+        of this structure contain the widths of bit fields.
         """
         name_place, _, offset = MEMBER.unpack_from(self.data, place)
         known = [
@@ -125,6 +126,8 @@ class KernelTypes:
 
 
 def extra_size(kind: int, count: int) -> int:
-    """Returns the number of bytes that follow a type of this kind with `count` entries."""
+    """Returns the number of bytes that follow the header (TYPE) of a type of this kind with `count`
+    entries.
+    """
     fixed, each = {1: 4, 3: 12, 14: 4, 17: 4}, {4: 12, 5: 12, 6: 8, 13: 8, 15: 12, 19: 12}
     return fixed.get(kind, 0) + each.get(kind, 0) * count

@@ -125,8 +125,8 @@ def switch_plan(types: KernelTypes) -> Plan | None:
 
 def interrupt_plan(machine: Machine, types: KernelTypes) -> Plan | None:
     """Returns the probe on psi_account_irqtime(task, delta). Returns None if the kernel doesn't
-    account interrupts. Since Linux 6.10 the function has other parameters, and none of them is the
-    time.
+    account the time of interrupts, or if the function has other parameters. Since Linux 6.10 none
+    of its parameters is the time.
     """
     pressure = read_file(f"{machine.proc}/pressure/irq")
     if not pressure or types.parameters("psi_account_irqtime") != 2:

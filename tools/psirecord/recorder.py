@@ -23,8 +23,8 @@ from .trigger import Trigger
 from .waiting import Job, Signals, Waiting
 
 DRAIN_SECONDS = 0.25
-# The largest part of the busiest buffer that should fill between two reads. At 600,000 switches/s a
-# buffer of 8 MB is full after 0.1 s.
+# The largest fraction of the busiest buffer that should fill between two reads. At 600,000
+# switches/s a buffer of 8 MB is full after 0.1 s.
 MOST_FULL = 0.25
 LEAST_DRAIN_SECONDS = 0.01
 SNAPSHOT_SECONDS = 60.0
@@ -41,8 +41,9 @@ MEGABYTE = 10**6
 class Wanted:
     """A request for a recording, from the operator's options. Times are in s, and sizes in the unit
     at the end of the name. `is_ring` requests a flight recorder. `until` is its trigger, `RESOURCE
-    some|full THRESHOLD WINDOW`, or empty. `group` is the path of the trigger's group, or empty.
-    `has_settings` requests the settings of systemd-oomd, and `has_containers` the names of
+    some|full THRESHOLD WINDOW`, or empty, and `after_seconds` the time to record after its signal.
+    `group` is the path of the trigger's group, or empty. `has_wakeups` requests the probe of
+    wakeups. `has_settings` requests the settings of systemd-oomd, and `has_containers` the names of
     containers.
     """
 
@@ -354,8 +355,8 @@ class Recorder:
         return {processor: count for processor, count in lost.items() if count}
 
     def write_cost(self, seconds: float) -> None:
-        """Writes the length of the recording, and the processor time and the bytes that the
-        recorder used.
+        """Writes to `meta` the length of the recording (s), the bytes of its pages, and the
+        processor time (s) that the recorder used.
         """
         usage = resource.getrusage(resource.RUSAGE_SELF)
         user, system = usage.ru_utime - self.usage.ru_utime, usage.ru_stime - self.usage.ru_stime

@@ -16,8 +16,8 @@ from psirec import layout
 from .machine import Machine, read_file
 
 KIB = 1024
-# Attributes of a group's folder, by which the group's owner asks oomd or systemd-oomd to kill the
-# group first, last or never.
+# Extended attributes of a group's folder. They ask oomd or systemd-oomd to kill the group first
+# (`prefer`), last (`avoid`) or never (`omit`).
 PREFERENCES = {
     "user.oomd_prefer": "prefer",
     "trusted.oomd_prefer": "prefer",
@@ -32,7 +32,7 @@ Mark = Callable[[str], bool]
 @dataclass(frozen=True)
 class Group:
     """A control group: its folder, its path as written in a recording, and the folder's inode
-    number. The inode number changes if the group is removed and created again.
+    number (0 for the root). The inode number changes if the group is removed and created again.
     """
 
     folder: str
@@ -145,9 +145,10 @@ class MemorySampler:
             self.write(layout.memory_marker(group.path, current, swap, scanned_pages(group)))
 
     def sample_accounting(self, group: Group) -> bool | None:
-        """Returns whether the group's pressure is accounted. Writes a marker if that changed since
-        the last check. A new group counts as accounted before its first check, even if an earlier
-        group with the same path wasn't accounted.
+        """Returns whether the group's pressure is accounted, or None if it has no file
+        `cgroup.pressure`. Writes a marker if that changed since the last check. A new group counts
+        as accounted before its first check, even if an earlier group with the same path wasn't
+        accounted.
         """
         is_on = is_accounted(group)
         if is_on is not None and is_on == (group in self.unaccounted):
@@ -176,8 +177,9 @@ class Reading:
 
 
 def read_pressure(machine: Machine, mark: Mark, number: int, time_s: float) -> Reading:
-    """Reads the pressure files of all groups, between two markers that contain `number`. The kernel
-    updates a group's totals at each read, so the totals depend on how often they are read.
+    """Reads the pressure files of all groups, between two markers that contain `number`. The result
+    contains `time_s`. The kernel updates a group's totals at each read, so the totals depend on how
+    often they are read.
     """
     mark(layout.pressure_marker(number, is_end=False))
     parts = []
@@ -202,7 +204,7 @@ def read_pressure(machine: Machine, mark: Mark, number: int, time_s: float) -> R
 @dataclass(frozen=True)
 class Snapshot:
     """The groups and tasks at one time, as lines of text. `time_ns` is CLOCK_MONOTONIC in ns, taken
-    before the first group is read.
+    before the first group is read. `unaccounted` has the groups whose pressure isn't accounted.
     """
 
     time_ns: int
@@ -217,8 +219,8 @@ class Snapshot:
 
 
 def preference(group: Group) -> str:
-    """Returns the preference that the group's owner set by one of the attributes PREFERENCES. The
-    first attribute that exists counts. Returns `none` without such an attribute.
+    """Returns the preference that a group's extended attributes state. If several attributes exist,
+    the first one in the order of PREFERENCES counts. Returns `none` if none exists.
     """
     for attribute, word in PREFERENCES.items():
         try:

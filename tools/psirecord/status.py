@@ -47,8 +47,8 @@ def free_bytes(folder: str) -> int:
 
 
 def waits_for(it: Stored) -> str:
-    """Returns a text that says for which trigger the recorder of an unfinished recording waits. If
-    there is no trigger, the text says what kind of recording it is.
+    """Describes an unfinished recording: an ordinary one, or a flight recorder's, with the trigger
+    for which the flight recorder waits. Without a trigger it runs until it is stopped.
     """
     ring, group = it.meta.all(Key.RING), it.meta.all(Key.RING_GROUP)
     if not ring or ring[0] == "none":

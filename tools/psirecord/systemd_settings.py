@@ -185,8 +185,8 @@ def settings_alone(text: bytes) -> bytes:
 
 
 def is_other_name(root: str, name: str) -> bool:
-    """Returns whether `name` is a second name of another file. For example, `lib` may be a link to
-    `usr/lib`.
+    """Returns whether `name` is a second path of a file in `usr/lib`. This is so for paths that
+    begin with `lib/` if `lib` is a link.
     """
     return name.startswith("lib/") and os.path.islink(f"{root}/lib")
 
