@@ -85,7 +85,9 @@ class Judged:
 
 
 def tell_lines(judged: Iterable[Judged], is_named: bool) -> None:
-    """Prints a line for each expectation, with the trace's name if `is_named`."""
+    """Prints a line for each expectation, with the trace's name if `is_named`. Traces that couldn't
+    be replayed and expectations that couldn't be checked are reported on standard error.
+    """
     for trace in judged:
         if isinstance(trace.found, Fault):
             complain(str(trace.found))

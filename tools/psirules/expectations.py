@@ -90,8 +90,8 @@ class Expectation(ABC):
 
 @dataclass(frozen=True)
 class First(Expectation):
-    """The expectation that the first kill, or another kill at the same time, is of this path and at
-    a time from `start` to `end` (ns), both inclusive.
+    """The expectation that the first kill, or another kill at the same time, is of a group that
+    matches `path`, and at a time from `start` to `end` (ns), both inclusive.
     """
 
     path: str
@@ -119,7 +119,9 @@ class First(Expectation):
 
 @dataclass(frozen=True)
 class KilledBy(Expectation):
-    """The expectation that a ruleset with this name killed the path at least once."""
+    """The expectation that a ruleset with the name (or the number, from 0) `ruleset` killed a group
+    that matches `path`.
+    """
 
     path: str
     ruleset: str
@@ -212,7 +214,8 @@ def pattern(word: str) -> str:
 
 
 def read_line(line: int, text: str) -> Expectation:
-    """Parses a line of a WANT file, which must be neither empty nor contain a comment."""
+    """Parses the text of a line of a WANT file, without its comment. `line` is the line's number.
+    """
     if found := re.fullmatch(r"first (\S+) from (\S+) to (\S+)", text):
         start, end = nanoseconds(found[2]), nanoseconds(found[3])
         if start > end:

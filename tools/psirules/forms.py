@@ -16,7 +16,7 @@ MOST_BYTES = 1 << 60
 MOST_PATTERNS = 16
 MOST = {Form.PERCENT: 100, Form.SECONDS: 1000000}
 LEADING = re.compile(r"\s*\+?([0-9]+)")
-"""The digits at the start of a text. oomd reads only these of a whole number."""
+"""Matches the digits at the start of a text. In a whole number, oomd ignores what follows them."""
 
 
 @dataclass(frozen=True)
@@ -80,7 +80,7 @@ def size(text: str) -> int | None:
 
 def size_text(count: int) -> str:
     """Formats a number of bytes with a unit letter, since oomd reads a number without one as
-    megabytes. Rounds up to a thousandth of a KiB.
+    megabytes. Rounds up to a thousandth of a KiB if no unit divides the number.
     """
     for letter, unit in reversed(UNITS.items()):
         if letter and count % unit == 0:

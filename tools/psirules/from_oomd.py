@@ -68,8 +68,8 @@ class Nearest:
         }
 
     def group(self, use: GroupUse) -> list[Any] | None:
-        """Converts a group of detectors. Returns None if a detector has no equivalent; the group
-        would then never fire.
+        """Converts a group of detectors. Returns None if a detector has no equivalent. The group is
+        then left out of the rules, so it never fires.
         """
         result: list[Any] = [use.name]
         for it in use.detectors:

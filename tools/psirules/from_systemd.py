@@ -84,7 +84,8 @@ def slices(name: str) -> str:
 
 def pattern_of(name: str, unit: Unit, is_users: bool) -> str | None:
     """Returns the pattern of a unit's groups, for a unit that is known only from unit files.
-    Returns None if the unit's name doesn't determine its groups.
+    `is_users` says that users' managers run the unit. Returns None if the unit's name doesn't
+    determine its groups.
     """
     stem, _, kind = name.rpartition(".")
     if kind == "scope":
@@ -180,8 +181,8 @@ class Nearest:
         return nearest
 
     def add_swap(self, places: list[Place]) -> None:
-        """Adds rulesets for swap. Each ruleset compares as many watched groups as an argument may
-        have patterns.
+        """Adds rulesets for the units `places`, which are watched for swap. Each ruleset compares
+        at most MOST_PATTERNS of them.
         """
         limits = self.settings.limits
         limit_at = dict(limits.places).get(SWAP_LIMIT, SWAP_LIMIT)
@@ -260,7 +261,9 @@ class Nearest:
                 )
 
     def wishing(self) -> Iterator[Place]:
-        """Yields the units that may have preferences, watched or not."""
+        """Yields the units whose preferences only systemd or, if no groups were recorded, unit
+        files state. They need not be watched.
+        """
         recorded = self.settings.groups
         for path, (name, unit) in self.settings.shown.items():
             if path not in recorded:
@@ -270,7 +273,9 @@ class Nearest:
                 yield from (Place(name, "", False, files.unit(name)) for name in files.named())
 
     def tell_pauses(self) -> None:
-        """Adds a note that a pause after a kill affects only the ruleset that killed."""
+        """Adds a note, if there are several rulesets for memory pressure, that a pause after a kill
+        affects only the ruleset that killed.
+        """
         pressures = sum(it["name"].startswith("memory pressure") for it in self.rulesets)
         if pressures > 1:
             self.tell(

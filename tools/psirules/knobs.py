@@ -108,7 +108,8 @@ def detector_knobs(rulesets: Any, longest: int) -> Iterator[Knob]:
 
 
 def changed(data: Any, values: Values) -> bytes:
-    """Returns a rules file in which some numbers have new values."""
+    """Returns the bytes of a rules file: its parsed contents `data` with the new numbers `values`.
+    """
     data = copy.deepcopy(data)
     for knob, value in values.items():
         at = data["rulesets"]
@@ -261,7 +262,8 @@ def subject(
     files: Any,
 ) -> Subject:
     """Returns the rules in the file or folder `name`. `by` is the name of the program that
-    evaluates them.
+    evaluates them, every `interval` seconds if that is oomd. For systemd-oomd, `version` is the
+    version of systemd, and `groups` has the paths of the traces' groups.
     """
     if by == by_systemd.NAME:
         return SystemdSettings(program, name, version, groups)

@@ -45,8 +45,8 @@ CAUSES = {
 
 
 def place_told(said: str, data: Any) -> str:
-    """Returns the place of an error in a rules file, from the program's message. Adds the names of
-    the ruleset, the group or the plugin.
+    """Returns the place of an error in a rules file, from the program's message `said`. Adds the
+    names of the ruleset, the group or the plugin from `data`, the parsed file.
     """
     lists = {"ruleset": "rulesets", "group": "detectors", "action": "actions"}
     parts, at = [], data
@@ -63,7 +63,7 @@ def place_told(said: str, data: Any) -> str:
 
 def verdict(data: bytes, read: Any) -> Finding | None:
     """Returns the first error that psi_oomd finds in a rules file with these bytes, or None if
-    psi_oomd accepts it.
+    psi_oomd accepts it. `read` is the parsed file, which has the names for the message.
     """
     with temporary_rules(data, "") as file:
         try:
@@ -86,8 +86,8 @@ def written(data: Any) -> bytes:
 
 
 class Linted:
-    """A rules file with its findings. `fixed` has the bytes of the corrected file, or is None if
-    the file can't be corrected.
+    """A rules file with its findings. `notes` has those that need no correction: differences from
+    oomd. `fixed` has the bytes of the corrected file, or is None if the file can't be corrected.
     """
 
     def __init__(self, data: bytes) -> None:

@@ -154,8 +154,9 @@ class Mender:
     def plugin(
         self, place: str, plugin: Any, known: dict[str, Plugin], others: dict[str, Plugin]
     ) -> Effect | None:
-        """Corrects a plugin's arguments, and returns None. If psi_oomd has no such plugin, returns
-        the effect of oomd's plugin.
+        """Corrects a plugin's name and arguments in place, and returns None. `known` has the
+        plugins that are allowed here, and `others` has psi_oomd's other plugins. If psi_oomd's
+        rules can't contain this plugin here, returns what it does in oomd.
         """
         if not isinstance(plugin, dict) or not isinstance(plugin.get("name"), str):
             return None
@@ -205,7 +206,9 @@ class Mender:
         return None
 
     def of_oomd(self, place: str, args: dict[str, Any], plugin: Plugin) -> None:
-        """Adds findings for arguments that only oomd knows."""
+        """Adds findings for `dry` and `threshold_anon`, which only oomd knows. Replaces `threshold`
+        by `threshold_anon`.
+        """
         if spelled(args.get("dry")) in ("true", "True", "1") and "dry" in plugin.of_oomd:
             self.find(
                 place,
@@ -224,7 +227,9 @@ class Mender:
             args["threshold"] = args.pop("threshold_anon")
 
     def value(self, place: str, args: dict[str, Any], name: str, form: Form) -> None:
-        """Corrects the value of an argument."""
+        """Corrects the value of the argument `name`, which must have the form `form`. Adds a
+        finding for each error, also if no correction is known.
+        """
         text = spelled(args[name])
         if text is None:
             self.find(

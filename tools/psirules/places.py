@@ -1,5 +1,5 @@
-"""Finds an argument in a rules file, by a text such as `ruleset/plugin.argument` with names or
-numbers.
+"""Finds the argument of a rules file that a text such as `ruleset/plugin.argument` refers to. The
+text gives the ruleset and the plugin by name or by number, counted from 0.
 """
 import copy
 import json
@@ -87,8 +87,8 @@ def splits(text: str) -> Iterator[list[str]]:
 
 
 def find(rules: RulesFile, text: str) -> tuple[Place, str]:
-    """Finds the place and the argument that a text `ruleset/plugin.argument` names. Raises a Fault
-    unless exactly one place matches.
+    """Finds the place and the argument that a text `ruleset/plugin.argument` refers to. Raises a
+    Fault unless exactly one place matches, and has such an argument.
     """
     name, _, argument = text.rpartition(".")
     if not name:

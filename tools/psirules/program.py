@@ -82,7 +82,9 @@ class Refusal(Fault):
     """
 
     def __init__(self, file: str, said: str, status: int, path: str | None = None) -> None:
-        """`path` is the file that is inspected to explain the error, if it isn't `file`."""
+        """`file` is the rejected file, `said` the program's message, and `status` its exit status.
+        `path` is the file that is inspected to explain the error, if it isn't `file`.
+        """
         advice = ADVICE.get(status, f"the program ended by status {status}").format(
             file=shlex.quote(file)
         )
@@ -110,9 +112,9 @@ class Program:
         self.path = named_program()
 
     def replay(self, trace: str, rules: RulesAt, pace: Pace, threads: int) -> list[Kill]:
-        """Returns the kills that a rules file makes in a trace. Raises a Refusal if the program
-        rejects the trace or the rules. The option `--report-s=0` suppresses all reports except the
-        last.
+        """Returns the kills that a rules file makes in a trace, replayed by at most `threads`
+        workers. Raises a Refusal if the program rejects the trace or the rules. The option
+        `--report-s=0` suppresses all reports except the last.
         """
         words = [
             "replay",

@@ -82,8 +82,8 @@ def is_settled(low: Outcome, high: Outcome) -> bool:
 
 
 def bisect(low: int, high: int, at_once: int, look: Look) -> dict[int, Outcome]:
-    """Evaluates as many values in a range as determine the outcome of every value. The first round
-    evaluates about `at_once` values. Each further round halves all intervals that are still
+    """Evaluates enough values in a range to determine the outcome of every value in it. The first
+    round evaluates about `at_once` values. Each further round halves all intervals that are still
     undecided.
     """
     step = max(1, -(-(high - low) // max(1, at_once - 1)))
@@ -112,8 +112,9 @@ def on_grid(low: int, high: int, present: int, look: Look) -> tuple[dict[int, Ou
 
 
 def joined(found: dict[int, Outcome], is_exact: bool) -> list[Range]:
-    """Joins consecutive values that meet the expectations into ranges. On a grid, the values
-    between two such neighbours are assumed to meet them too.
+    """Joins consecutive values that meet the expectations into ranges. `is_exact` says that the
+    values come from a bisection. If they come from a grid, the values between two such neighbors
+    are assumed to meet the expectations, too.
     """
     values = sorted(found)
     ranges: list[Range] = []

@@ -24,8 +24,9 @@ def bytes_of(name: str) -> bytes:
 
 @contextmanager
 def temporary_rules(data: bytes, name: str) -> Iterator[RulesAt]:
-    """Yields a temporary rules file with these bytes. The replay then uses the rules whose names
-    are printed, even if the original file is a pipe or is changed.
+    """Yields a temporary rules file with these bytes. `name` is the original file, for messages.
+    The replay then uses the rules whose names are printed, even if the original file is a pipe or
+    is changed.
     """
     with tempfile.NamedTemporaryFile(prefix="psirules-", suffix=".json") as file:
         file.write(data)
@@ -52,7 +53,7 @@ class RulesFile:
         return f"{ruleset}, action {kill.action} {quoted(self.plugin_name(kill))}"
 
     def killed(self, kill: Kill) -> str:
-        """Describes a kill after the group's path: `killed at TIME by KILLER`."""
+        """Returns the words that follow the path of a killed group: `killed at TIME by KILLER`."""
         return f"killed at {time_text(kill.time_ns)} by {self.killer(kill)}"
 
     def record(self, kill: Kill) -> dict[str, object]:

@@ -50,9 +50,10 @@ def note(trace: str) -> str:
 
 
 def least_stall(mark: Sampled, threshold: float, duration: float) -> float:
-    """Returns the length (s) of the shortest full stall that surely exceeds a threshold (percent)
-    for a duration (s). It is the time until the 10 s average exceeds the threshold, plus the
-    duration, plus two intervals between samples.
+    """Returns the length (s) of the shortest full stall that surely keeps the 10 s average above
+    `threshold` (percent) for `duration` (s). It is the time until the average exceeds the
+    threshold, plus the duration, plus two intervals between the samples of a trace with the mark
+    `mark`.
     """
     rise = PERIOD * math.log(100 / (100 - min(threshold, 99.0)))
     return duration + rise + 2 * mark.every / SECOND

@@ -51,8 +51,8 @@ class Task:
     values: Mapping[str, Any]
 
     def is_monotone(self) -> bool:
-        """Whether a lower value never delays the first kill. If only a part of a trace counts, it
-        can: an earlier kill before that part may begin a pause of the ruleset.
+        """Whether a lower value never delays the first kill. If only a part of a trace counts, a
+        lower value can delay it: a kill before that part may begin a pause of the ruleset.
         """
         is_first = all(isinstance(it, (First, NoKillBefore)) for it in self.wanted)
         return is_first and not self.traces.spans
@@ -156,8 +156,8 @@ class Answer:
 
 
 def searched(judge: Judge, knob: Knob, others: Values) -> Search:
-    """Finds the ranges of a number, while the numbers in `others` have other values than in the
-    file.
+    """Finds the ranges of the number `knob`. The numbers in `others` have the values given there,
+    and all remaining numbers have their values in the file.
     """
     is_monotone = judge.subject.is_monotone() and judge.task.is_monotone()
 
@@ -239,8 +239,8 @@ class Suggestion:
 
 
 def suggest(options: argparse.Namespace, judge: Judge, knobs: list[Knob]) -> Suggestion:
-    """Finds all ranges and the values with the widest margins. Writes the values to a file if an
-    option names one.
+    """Finds all ranges and the values with the widest margins. Writes these values to the file that
+    -o names if they meet all expectations together.
     """
     marks = {mark.interval() for trace in judge.task.traces.names if (mark := sampled(trace))}
     samples = ", ".join(sorted(marks))
