@@ -20,9 +20,9 @@ from .moments import Moments, period_of
 from .sums import Sums
 from .sums import Totals as Grown
 
-# The number of phases that are tried in a period of two seconds: one about every 16 ms. The search
-# first tries each COARSE-th phase. Then it repeatedly halves the step, and tries the two neighbours
-# of the best phase.
+# The number of phases in a period of two seconds among which the search chooses: one about every
+# 16 ms. The search first tries each COARSE-th phase. Then it repeatedly halves the step, and tries
+# the two neighbors of the best phase.
 PHASES, COARSE = 128, 4
 LEVELS = 2
 MICROSECOND = 1000

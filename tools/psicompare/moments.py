@@ -18,7 +18,7 @@ from psiread.pressure import Readings, recorder_of, spans_of
 from psiread.source import Source
 from psirec.layout import RESOURCES
 
-# The upper bound (bytes) for the size of a `struct psi_group`, which contains the work item that
+# An upper bound (bytes) on the size of a `struct psi_group`, which contains the work item that
 # samples the group.
 MOST_ACCOUNTS = 4096
 # The rates (Hz) of kernels' timers, and the most common rate, which is the default. 300 Hz isn't
@@ -40,8 +40,8 @@ def period_of(hertz: int) -> int:
 
 class Moments:
     """The times at which the kernel sampled the groups of a recording. `readings` contains the
-    machine's totals. If the times are known, each of its files has the time (ns) that the probe
-    reported.
+    machine's totals. If the times are known, each file in `readings` has the time (ns) that the
+    probe reported.
     """
 
     def __init__(self, source: Source, readings: Readings) -> None:
@@ -141,7 +141,8 @@ def rate_of(works: dict[int, list[int]]) -> int | None:
 
 
 def longest_run(times: Sequence[int]) -> tuple[int, float]:
-    """Returns the length of the longest run of consecutive periods, and the mean period in it (ns).
+    """Returns the number of periods in the longest run of consecutive samplings, and the mean
+    period (ns) in that run. `times` are the times (ns) of samplings.
     """
     best, length, run = 0, 0.0, 0
     for place, time_ns in enumerate(times):

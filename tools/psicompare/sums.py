@@ -32,8 +32,8 @@ class Step(NamedTuple):
 
 
 def shares(processors: Sequence[Times], hertz: int) -> list[int]:
-    """Returns the growth (ns) of each state except `nonidle` in an interval. `hertz` is the rate of
-    the kernel's timer.
+    """Returns the growth (ns) of each state's total, except `nonidle`, in an interval. `processors`
+    has the time in each state on each processor, and `hertz` is the rate of the kernel's timer.
     """
     weights = [times[NONIDLE] * hertz // SECOND for times in processors]
     whole = max(1, sum(weights))

@@ -95,7 +95,7 @@ def part_of(options: Options, source: Source, whole: Window) -> Window:
 
 
 def method_of(options: Options, source: Source) -> Method:
-    """Returns the method by which waits for IO are recognised: the requested one, or by default the
+    """Returns the method by which waits for IO are recognized: the requested one, or by default the
     most exact method that the recording supports. Raises a Fault if the recording doesn't support
     the requested method.
     """
@@ -218,8 +218,9 @@ def is_large(options: Options) -> bool:
 
 
 class Made(NamedTuple):
-    """A converted trace. `parts` is the bytes of the trace, `converted` the figures for the report,
-    and `notes` further lines of the report. `is_longer` says that folding made the trace longer.
+    """A converted trace. `parts` are the bytes of the trace in pieces, `converted` has the figures
+    for the report, and `notes` further lines of the report. `is_longer` says that folding made the
+    trace longer.
     """
 
     converted: Converted

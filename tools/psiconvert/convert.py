@@ -144,7 +144,9 @@ def world_prior(world: World, samples: Samples, is_sound: bool) -> Prior:
 
 
 def first_of(number: int, prior: Prior, beginning: Beginning) -> First:
-    """Returns the state of a task at the start. What the events show overrides the known state."""
+    """Returns the state of a task at the start. In general, the state that the events show
+    overrides the one in `prior`.
+    """
     known, said = prior.tasks.get(number), beginning.tasks.get(number)
     if said is None:
         state, processor, _ = known.first if known else First(State.ASLEEP, 0)
@@ -314,7 +316,7 @@ class Past(NamedTuple):
 
 
 class Wanted(NamedTuple):
-    """The options of a conversion: the window, the method by which waits for IO are recognised, and
+    """The options of a conversion: the window, the method by which waits for IO are recognized, and
     the largest depth of groups. `upon` contains the lines to write when a group is created, keyed
     by path. The other options are whether interrupts are included, and the warm-up.
     """

@@ -161,7 +161,7 @@ class Conversion:
         )
 
     def play(self, part: Slice) -> bool:
-        """Converts a slice. Returns whether the window extends beyond it."""
+        """Converts a slice. Returns whether the next slice may contain events of the window."""
         events, window = part.events, self.wanted.window
         start = bisect_left(events, window.start, key=BY_TIME)
         end = bisect_left(events, window.end + 1, key=BY_TIME)

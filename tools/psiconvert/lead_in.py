@@ -72,8 +72,9 @@ def averages_in(text: str, number: int) -> dict[str, Averages]:
 
 
 def stretches_of(averages: Sequence[float], ticks: int) -> list[float]:
-    """Returns the pressures (0 to 100 percent) of the three stretches, the earliest first. After
-    them, averages that begin at 0 are as near as possible to `averages`.
+    """Returns the pressures (0 to 100 percent) of the three stretches, the earliest first. The
+    warm-up has `ticks` ticks. At its end, averages that began at 0 are as near as possible to
+    `averages` (percent over 10, 60 and 300 s).
     """
     lengths = (ticks - MIDDLE - LAST, MIDDLE, LAST)
     rows = []

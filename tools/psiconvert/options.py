@@ -51,7 +51,8 @@ LEAST_PAST, MOST_PAST = 300 * SECOND, 3600 * SECOND
 
 class Options(NamedTuple):
     """The parsed command line. `wall` is the time of day at the start, or None if no option gives
-    it.
+    it. `window` is the length (ns) of the part around the time `at`, and `lead_in` the length (ns)
+    of the warm-up.
     """
 
     source: str

@@ -208,7 +208,9 @@ class Player:
     # ------------------------------------------------------------ new tasks, wakeups and migrations
 
     def wake(self, place: int, event: Wakeup) -> None:
-        """Makes a sleeping task ready. Has no effect on a task that isn't asleep."""
+        """Wakes a task that sleeps or waits for IO. Creates the task if it isn't known. Has no
+        effect on a task that is ready or runs.
+        """
         _, _, _, number, target = event
         task = self.task_of(number, place, Task.is_blocked)
         if task is None and self.is_task(number):
@@ -334,7 +336,9 @@ class Player:
             self.world.move(task, path)
 
     def group(self, event: GroupMade | GroupRemoved) -> None:
-        """Creates or removes a group."""
+        """Creates or removes a group. Ignores the groups of cgroup 1, which are in other
+        hierarchies.
+        """
         if event.hierarchy:
             return
         path = escaped_path(event.path)

@@ -1,4 +1,4 @@
-"""Formats the report of a conversion: the size of the trace, how waits for IO were recognised, and
+"""Formats the report of a conversion: the size of the trace, how waits for IO were recognized, and
 what was repaired or lost.
 """
 from __future__ import annotations
@@ -28,7 +28,7 @@ def utc_text(realtime: int) -> str:
 
 
 def waits_text(method: Method, converted: Converted) -> str:
-    """Returns the line that says how waits for IO were recognised, and how reliable that method is.
+    """Returns the line that says how waits for IO were recognized, and how reliable that method is.
     """
     if method is Method.STATE:
         return (
@@ -130,7 +130,8 @@ def summary_of(
 
 
 def other_way(converted: Converted) -> str:
-    """Returns additional advice if the trace has too many events. Empty if it hasn't."""
+    """Returns additional advice if the trace reached the limit of events, or else an empty string.
+    """
     if not converted.limit or not converted.limit.endswith(" events"):
         return ""
     if converted.folded is not None:

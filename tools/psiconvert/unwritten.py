@@ -80,7 +80,8 @@ class Chains:
 
     def missing(self, event: Event, known: int, runs: int) -> list[Switch]:
         """Returns the unwritten switches before an event, on its processor. They lead from the task
-        `known`, which was known to run, to the task `runs`, which runs at the event.
+        `known`, which was known to run, to the task `runs`, which runs at the event. If `runs`
+        wasn't known to be ready, the switch to it isn't returned.
         """
         if (known, runs) in self.renamed or self.is_gap(event):
             return []

@@ -1,7 +1,7 @@
 """Moves wakeups to the time at which psi counts the task as ready. The kernel counts it in
 `psi_task_change`, some time before it writes the event of the wakeup. If a recording has the probe
 on this function, a wakeup can be written at either time or in the middle. The task really became
-ready between the two times. So the two times are bounds for the task's wait for a processor.
+ready between the two times, so they bound the start of the task's wait for a processor.
 """
 from __future__ import annotations
 

@@ -212,7 +212,7 @@ class Check:
             play(line, *fields)
 
     def must(self, is_right: object, line: str) -> None:
-        """Raises Different for the current line, unless `is_right`."""
+        """Raises Different, with the text of `line`, unless `is_right`."""
         if not is_right:
             raise Different(f"the line '{line}' can't stand there")
 
@@ -261,7 +261,7 @@ class Check:
             self.runs[processor] = following
 
     def stall(self, line: str, number: str) -> None:
-        """Begins or ends a stall of the running task."""
+        """Begins or ends the memory stall of a task, which must be running."""
         task, is_stalled = self.tasks.get(number), line.split(" ")[1] == "stall"
         self.must(task and task.does == RUNNING and task.is_stalled != is_stalled, line)
         assert task
@@ -341,7 +341,9 @@ class Check:
         )
 
     def compare(self, what: str, where: str, found: object, wanted: object) -> None:
-        """Raises Different if `found` isn't `wanted`."""
+        """Raises Different if `found` differs from `wanted`. `what` and `where` are for the
+        message.
+        """
         if found != wanted:
             raise Different(f"{what} {where} differs: {found}, not {wanted}")
 

@@ -5,9 +5,9 @@ Pressure depends only on the time for which each group was in each state on each
 two ticks. So within a window, whose length divides the length of a tick, other events may replace
 the original ones if these times are the same. They need about as many events as there are groups on
 the processors. All other lines are copied with their times: memory samples, preferences, triggers,
-and the lines that create or remove groups or switch accounting. Each line of the last two kinds
-ends a window. At each multiple of the window's length, at which a tick may be, the same groups have
-tasks as in the original.
+and the lines that create or remove groups or switch accounting. Each line that changes groups or
+accounting ends a window. At each multiple of the window's length, at which a tick may be, the same
+groups have tasks as in the original.
 """
 from __future__ import annotations
 

@@ -35,8 +35,9 @@ class Interrupt(NamedTuple):
 
 
 class Move(NamedTuple):
-    """A change of a representative's kind. `before` is None if the representative is created, and
-    `after` is None if it exits.
+    """A change of a representative: its group's path, its task number, and its kind before and
+    after the change. `before` is None if the representative is created, and `after` is None if it
+    exits.
     """
 
     path: str

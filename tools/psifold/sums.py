@@ -80,8 +80,8 @@ class View:
         return chain
 
     def sets_of_byte(self, place: int, value: int) -> int:
-        """Returns the sets of groups to which the elements of a byte contribute, packed into one
-        integer.
+        """Returns the sets of groups to which the elements of a joint state's byte contribute,
+        packed into one integer. `place` is the index of the byte, and `value` its value.
         """
         sets, keys = 0, self.catalog.keys
         for bit in range(8):

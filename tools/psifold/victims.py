@@ -93,7 +93,8 @@ class Victims:
     def removals(self, world: FoldWorld) -> list[tuple[int, ...]]:
         """Returns the sets of groups to exclude: all single groups, then all pairs, and so on, as
         long as there are at most MOST_REMOVALS sets. No set contains a group and its ancestor,
-        since excluding the ancestor excludes both.
+        since excluding the ancestor excludes both. Also sets the groups that `world` watches, and
+        lowers `whole` if there are too many sets.
         """
         slots = (
             sorted(slot for path, slot in world.live.items() if self.matches(path))

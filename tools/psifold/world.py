@@ -173,7 +173,7 @@ class FoldWorld:
         self.bits: dict[int, int] = {}
         # For each group, `watched` has the groups that might be killed among itself and its
         # ancestors. `changes` counts the tasks that enter groups that might be killed, or move out
-        # of them or between them, which a folded trace can't preserve.
+        # of them or between them. A folded trace can't preserve these events.
         self.watched: dict[int, set[int]] = {}
         self.changes = Changes()
         self.verbs: dict[str, Callable[[int, list[str]], None]] = {
@@ -268,7 +268,7 @@ class FoldWorld:
             self.change(processor, time_ns, before, task.place + task.kind)
 
     def stall(self, time_ns: int, words: list[str]) -> None:
-        """Begins or ends a stall of the running task."""
+        """Begins or ends the memory stall of a task, which must be running."""
         _, verb, number = words
         task = self.tasks[int(number)]
         if task.kind != (RUNNING if verb == "stall" else RUNNING | STALLED):

@@ -1,4 +1,4 @@
-"""Recognises what kind of file an operator passed, by its first bytes, to give advice if the file
+"""Recognizes what kind of file an operator passed, by its first bytes, to give advice if the file
 isn't of the expected kind.
 """
 from __future__ import annotations
@@ -9,7 +9,7 @@ import re
 
 from psirec.meta import is_recording
 
-# The number of bytes, from the start of a file, that are needed to recognise its kind.
+# The number of bytes, from the start of a file, that are needed to recognize its kind.
 HEAD = 64
 TRACE_HEADER = re.compile(rb"psitrace [0-9]+ cpus=")
 # The first bytes of each kind of file, and a message that names the kind and gives advice.

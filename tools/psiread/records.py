@@ -65,8 +65,8 @@ def switch_decoder(form: Format) -> Decoder:
     known: dict[int, str] = {0: "R"}
 
     def letter_of(state: int) -> str:
-        # As in the kernel's print format, the letter of the lowest set bit counts. It is R if no
-        # bit with a letter is set.
+        # As in the kernel's print format, the letter of the lowest set bit counts. It is R if that
+        # bit has no letter, or if the bit for `R+` is set.
         lowest = state & -state
         known[state] = "R" if state & stays else letters.get(lowest, "R")
         return known[state]

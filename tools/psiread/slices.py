@@ -49,7 +49,9 @@ BY_TIME = itemgetter(0)
 
 
 class WaitingSwitch(Switch):
-    """A switch that begins a wait for IO. It replaces the switch and the probe right before it."""
+    """A switch that begins a wait for IO. It replaces a Switch, and the probe that precedes that
+    switch.
+    """
 
     __slots__ = ()
 
@@ -83,8 +85,9 @@ def reader_of(
 
 
 class Reader:
-    """Reads one processor's pages, in parts of about `size` bytes. `gaps` are the gaps found so
-    far, and `rest` is the number of bytes after the last complete page.
+    """Reads one processor's pages, in parts of about `size` bytes. `most` is the largest number of
+    decompressed bytes (see `Raw`). `gaps` are the gaps found so far, and `rest` is the number of
+    bytes after the last complete page.
     """
 
     def __init__(
@@ -339,8 +342,8 @@ class Survey:
         self.silent = coming - leaving
 
     def slices(self, whole_from: int) -> Iterator[list[Event]]:
-        """Yields the events in slices, without those from before `whole_from` (ns), when the events
-        of some processors are missing.
+        """Yields the events in slices. Leaves out events before the time `whole_from` (ns), since
+        before that time the events of some processors are missing.
         """
         for events in slices_of(self.readers()):
             yield (

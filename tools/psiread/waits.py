@@ -14,7 +14,7 @@ UNINTERRUPTIBLE = "D"
 
 
 class Method(Enum):
-    """The methods by which a wait for IO is recognised, the most exact first."""
+    """The methods by which a wait for IO is recognized, the most exact first."""
 
     PROBE = "probe"  # the bit that psi itself reads, by a probe on psi_task_switch
     STATISTICS = "stat"  # sched_stat_iowait, which needs kernel.sched_schedstats=1

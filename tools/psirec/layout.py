@@ -79,7 +79,7 @@ class Key:
     RING = "ring"  # the trigger of a flight recorder, or `none`
     RING_GROUP = "ring-group"  # the escaped path of the group that the trigger watches
     RING_START = "ring-start"  # the time (s) since which the events of all processors are complete
-    FIRED = "fired"  # the time (s) at which the trigger signalled pressure
+    FIRED = "fired"  # the time (s) at which the trigger signaled pressure
     STATS = "stats"  # `cpuN LINE`, a line of `per_cpu/cpuN/stats` at the end
     SECONDS = "seconds"  # the length of the recording (s)
     BYTES = "bytes"  # the size of all pages (bytes), before they are compressed
@@ -101,7 +101,7 @@ class Reason:
     SECONDS = "seconds"  # the requested time was over
     SIGNAL = "signal"  # SIGINT, SIGTERM or SIGHUP was received
     SIZE = "max-mb"  # the largest permitted number of bytes was written
-    TRIGGER = "trigger"  # the flight recorder's trigger signalled pressure
+    TRIGGER = "trigger"  # the flight recorder's trigger signaled pressure
     DISK_FULL = "disk-full"  # not all pages could be written
     FAILED = "failed"  # an error, whose message follows this word
     KILLED = "killed"  # `meta` has no reason: the recorder was killed, or the machine crashed
@@ -184,8 +184,8 @@ def pressure_marker(number: int, is_end: bool) -> str:
 
 
 def accounting_marker(path: str, is_on: bool) -> str:
-    """Returns the marker that a group's `cgroup.pressure` has changed since the previous sample. A
-    new group is assumed to start with 1. `path` is escaped.
+    """Returns the marker which reports that a group's `cgroup.pressure` has changed since the
+    previous sample. A new group is assumed to start with 1. `path` is escaped.
     """
     return f"{MARK}accounting {path} {'on' if is_on else 'off'}"
 

@@ -84,8 +84,8 @@ class Instance:
 
     def enable_all(self, sources: Sources, say: Say, tell: Tell) -> list[str]:
         """Switches on the available events, and returns their names. Reports each unavailable
-        event, and what the recording lacks without it. Raises NotRecorded if nothing can be
-        recorded without it.
+        event, and what the recording lacks without it. Raises NotRecorded if the event is
+        required.
         """
         events = []
         for event in sources.events:

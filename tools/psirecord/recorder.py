@@ -180,7 +180,7 @@ class Recorder:
         self.waiting.watch(self.trigger.file, condition)
 
     def is_signal(self) -> bool:
-        """Returns whether pressure was signalled. poll(2) also reports the file of a removed group
+        """Returns whether pressure was signaled. poll(2) also reports the file of a removed group
         as ready, but that isn't a signal.
         """
         if self.trigger and self.trigger.is_current():
@@ -189,8 +189,8 @@ class Recorder:
         return False
 
     def follow_group(self) -> None:
-        """Opens the trigger again if its group was removed and created again. This happens to the
-        group of a service at a restart.
+        """Opens the trigger if its group exists now. The group may be created only later, or be
+        removed and created again, like the group of a service at a restart.
         """
         trigger = self.trigger
         if not trigger or trigger.is_current() or self.fired:

@@ -31,8 +31,8 @@ class Limits:
 @dataclass(frozen=True)
 class Stored:
     """A stored recording. `name` is the name of its folder, and `ended` the time of the last write
-    to its `meta` (s since 1970). `is_written` says whether a recorder is still writing it, and
-    `meta` contains the lines of its `meta`.
+    to its `meta` (s since 1970). `bytes` is the total size of its files. `is_written` says whether
+    a recorder is still writing it, and `meta` contains the lines of its `meta`.
     """
 
     name: str

@@ -46,7 +46,7 @@ class Signals:
 
 
 class Waiting:
-    """Waits until a certain time, and reports whether pressure was signalled."""
+    """Waits until a certain time, and reports whether pressure was signaled."""
 
     def __init__(self, signals: Signals) -> None:
         self.poll = select.poll()
@@ -55,7 +55,7 @@ class Waiting:
 
     def watch(self, trigger: int, condition: int) -> None:
         """Adds the file `trigger` to the polled files. poll(2) reports `condition` for this file if
-        pressure was signalled.
+        pressure was signaled.
         """
         self.trigger = trigger
         self.poll.register(trigger, condition)
@@ -67,7 +67,7 @@ class Waiting:
 
     def until(self, time_s: float) -> bool:
         """Waits until `time_s` (CLOCK_MONOTONIC, s), a signal or pressure. Returns True if pressure
-        was signalled and no signal was received.
+        was signaled and no signal was received.
         """
         pause = max(0.0, time_s - time.monotonic())
         found = [file for file, _ in self.poll.poll(int(pause * 1000 + 0.999))]

@@ -87,7 +87,9 @@ def told_old(old: Kill, new: Kill, old_rules: RulesFile, new_rules: RulesFile) -
 
 @dataclass(frozen=True)
 class Compared:
-    """A trace with the difference of its kills, or a Fault if it couldn't be replayed."""
+    """A trace, and the first difference between its kills by OLD and by NEW, or a Fault if the
+    trace couldn't be replayed.
+    """
 
     trace: str
     found: Difference | Fault

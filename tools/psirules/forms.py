@@ -16,7 +16,7 @@ MOST_BYTES = 1 << 60
 MOST_PATTERNS = 16
 MOST = {Form.PERCENT: 100, Form.SECONDS: 1000000}
 LEADING = re.compile(r"\s*\+?([0-9]+)")
-"""Matches the digits at the start of a text. In a whole number, oomd ignores what follows them."""
+"""The digits at the start of a text. oomd reads only these of a whole number."""
 
 
 @dataclass(frozen=True)

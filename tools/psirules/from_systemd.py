@@ -261,8 +261,8 @@ class Nearest:
                 )
 
     def wishing(self) -> Iterator[Place]:
-        """Yields the units whose preferences only systemd or, if no groups were recorded, unit
-        files state. They need not be watched.
+        """Yields units that may have preferences, whether watched or not, but that have no recorded
+        group: those that systemd reported and, if no group was recorded, those of unit files.
         """
         recorded = self.settings.groups
         for path, (name, unit) in self.settings.shown.items():

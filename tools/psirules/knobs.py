@@ -262,8 +262,9 @@ def subject(
     files: Any,
 ) -> Subject:
     """Returns the rules in the file or folder `name`. `by` is the name of the program that
-    evaluates them, every `interval` seconds if that is oomd. For systemd-oomd, `version` is the
-    version of systemd, and `groups` has the paths of the traces' groups.
+    evaluates them. `interval` is oomd's evaluation interval (s), or None for its default. For
+    systemd-oomd, `version` is the version of systemd, and `groups` has the paths of the traces'
+    groups.
     """
     if by == by_systemd.NAME:
         return SystemdSettings(program, name, version, groups)

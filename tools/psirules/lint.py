@@ -86,8 +86,9 @@ def written(data: Any) -> bytes:
 
 
 class Linted:
-    """A rules file with its findings. `notes` has those that need no correction: differences from
-    oomd. `fixed` has the bytes of the corrected file, or is None if the file can't be corrected.
+    """A rules file with its findings. `notes` has further findings: what oomd does differently with
+    the same rules. `fixed` has the bytes of the corrected file, or is None if the file can't be
+    corrected.
     """
 
     def __init__(self, data: bytes) -> None:

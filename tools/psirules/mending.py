@@ -206,8 +206,8 @@ class Mender:
         return None
 
     def of_oomd(self, place: str, args: dict[str, Any], plugin: Plugin) -> None:
-        """Adds findings for `dry` and `threshold_anon`, which only oomd knows. Replaces `threshold`
-        by `threshold_anon`.
+        """Adds findings for `dry` and `threshold_anon`, which only oomd knows. Gives `threshold`
+        the value of `threshold_anon`, which is removed.
         """
         if spelled(args.get("dry")) in ("true", "True", "1") and "dry" in plugin.of_oomd:
             self.find(

@@ -126,8 +126,8 @@ def length_of(whole: Whole) -> int:
 
 
 def read_again() -> None:
-    """Copies standard input to a temporary file, which replaces it, so that it can be read several
-    times.
+    """Replaces standard input by a temporary file with the same contents, so that it can be read
+    several times.
     """
     file = tempfile.TemporaryFile()
     shutil.copyfileobj(sys.stdin.buffer, file)

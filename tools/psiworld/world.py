@@ -158,8 +158,8 @@ class World:
         self.leave_group(before)
 
     def switch_accounting(self, path: str, is_on: bool) -> None:
-        """Switches the group's accounting on or off, unless it is already. Ignores the root, which
-        is always accounted, and groups that the trace doesn't have.
+        """Switches the group's accounting on or off. Writes no line if it is in that state already,
+        for the root, which is always accounted, and for groups that the trace doesn't have.
         """
         if path == ROOT or path not in self.groups.live or is_on != (path in self.off):
             return
@@ -283,8 +283,8 @@ class World:
             self.forget(number)
 
     def detour(self, number: int, how: How, stalls: bool = False) -> None:
-        """Makes a ready task run for zero time and leave as `how` says, with `stalls` in a memory
-        stall. Then the previous task runs again.
+        """Makes a ready task run for zero time and leave as `how` says. If `stalls`, the task
+        enters a memory stall before it leaves. Then the previous task runs again.
         """
         processor = self.tasks[number].processor
         before = self.running(processor)
