@@ -23,9 +23,10 @@ def covers(patterns: str, path: str) -> bool:
 
 @dataclass
 class Group:
-    """A group since its creation. It has the group's last sample (bytes and pages), its preference,
-    the number of its own tasks, its memory (bytes) at earlier evaluations (newest first), and its
-    number of scanned pages at the previous evaluation.
+    """A group since its creation. `memory` and `swap` (bytes) and `scanned` (pages) are from its
+    last sample. `tasks` counts the group's own tasks, without those of its descendants. `sizes` has
+    its memory (bytes) at up to four earlier evaluations, newest first. `before` has its scanned
+    pages at the previous evaluation.
     """
 
     memory: int = 0
@@ -140,15 +141,17 @@ class Replayed:
 
 
 class Detector:
-    """A detector, with its value at each evaluation."""
+    """A detector, with a row for each evaluation: the time (ns), the value (None if there is none),
+    the group with this value, and whether the value is beyond the limit.
+    """
 
     def __init__(self, plugin: dict[str, Any]) -> None:
         self.name, self.args = plugin["name"], plugin["args"]
         self.rows: list[tuple[int, Optional[float], str, bool]] = []
 
     def take(self, look: Look) -> None:
-        """Appends the detector's greatest value at an evaluation, the group with that value, and
-        whether the value is beyond the limit. The detector `exists` has no value.
+        """Appends the row for an evaluation. If several groups match, the row has the greatest
+        value. The detector `exists` has no rows.
         """
         if self.name == "exists":
             return

@@ -1,6 +1,6 @@
 #!/usr/bin/env python3
-"""Checks that all fail, each in a different way, with a short time limit. The test of the harness
-runs them.
+"""Checks with a short time limit for the test of the harness, which runs them. All but one fail,
+each in a different way.
 """
 from __future__ import annotations
 

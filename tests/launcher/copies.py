@@ -24,7 +24,8 @@ TOOLS = (
 PROGRAM = "#!/bin/sh\nprintf '<%s>\\n' \"$@\"\nexit 7\n"
 # A stub of `rt`. `rt try` prints its folder and its arguments, with the content of each file in
 # place of its path. `rt ci` writes the names of the files it finds to SEEN, and makes a program
-# from MADE. Both print SAID and exit with STATUS. `rt version` prints KIT. Other commands fail.
+# from MADE. Both print SAID and exit with STATUS. If LINKED names a program, `rt try` copies it
+# into TMPDIR and sleeps for SLEEP seconds instead. `rt version` prints KIT. Other commands fail.
 RT = """#!/bin/sh
 case $1 in
 try)
@@ -147,8 +148,8 @@ class Copy:
         return place
 
     def trial(self, *words: str, **more: str) -> tuple[list[str], list[str]]:
-        """Returns what `rt try` should print for these arguments: the files with their contents,
-        and the program's arguments.
+        """Runs the launcher with `--try` and these arguments. Returns what the stub of `rt try`
+        prints: the files with their contents, and the program's arguments.
         """
         status, said, error = self.run(
             "--try", *words, SAID="own words\n" + ENDED.format(3), STATUS="3", **more

@@ -1,4 +1,6 @@
-"""Checks that usage errors, and files that aren't traces, are reported at once, without a build."""
+"""Checks that the launcher reports usage errors at once, without a build. If the program rejects a
+file, the launcher says what kind of file it is.
+"""
 from __future__ import annotations
 
 import os

@@ -33,7 +33,7 @@ class Family:
 
 
 class Sample(NamedTuple):
-    """A line of the text that contains one point."""
+    """A line of the text that contains one point. `moment` is its time (s since 1970)."""
 
     name: str
     labels: Labels
@@ -90,8 +90,8 @@ class Exposition:
         must(what != "UNIT" or name.endswith(f"_{text}"), f"the name {name} ends with its unit")
 
     def take_sample(self, sample: Sample) -> None:
-        """Adds a point. Raises unless the points of each metric are consecutive, in order of time,
-        and at least 0.
+        """Adds a point. Raises unless the points of each metric are consecutive and in order of
+        time.
         """
         family = self.open
         if not family:

@@ -102,8 +102,8 @@ def asked(address: str, query: str, time_s: Decimal) -> Any:
 
 
 def compare(address: str, name: str, wanted: Exposition, end: Decimal) -> None:
-    """Raises unless Prometheus returns exactly the points of this family. Times may differ by up to
-    1 ms.
+    """Raises unless Prometheus returns exactly the points that the family `name` has in `wanted`.
+    `end` is the time (s since 1970) of the last point. Times may differ by at most 1 ms.
     """
     metrics = wanted.families[name].metrics
     found = asked(address, f"{name}_total[1h]", end + 1)

@@ -52,7 +52,8 @@ class Made:
         program.
         """
         path = self.path("bin", name)
-        # The tools need Debian's own Python, and the programs are started by sh.
+        # The programs, whose names have a `_`, are started by sh. If Debian's Python, which the
+        # tools name in their first line, isn't installed, this Python runs them.
         words = (path, *words) if os.access(PYTHON, os.X_OK) or "_" in name else (
             sys.executable, "-B", path, *words
         )

@@ -14,8 +14,8 @@ from package.archives import (
 )
 from shared.program import TOP
 
-# Tools that aren't packaged, because they are only for checkouts. `events` needs psi_convert, which
-# isn't packaged yet.
+# Tools that aren't packaged. `launch` and `package` are only for checkouts, and `events` needs
+# psi_convert, which isn't packaged yet.
 OWN_TOOLS = ("launch", "package", "events")
 
 

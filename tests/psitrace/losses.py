@@ -41,8 +41,8 @@ def check_lost_events(program: str) -> None:
 
 
 def flag_first_page(data: bytes, pages: int) -> bytes:
-    """Returns the pages of a ring buffer whose first pages were overwritten. The header of the next
-    page says that events before it were lost.
+    """Returns `data` without its first `pages` pages, as if a ring buffer had overwritten them. The
+    header of the next page says that events before it were lost.
     """
     rest = bytearray(data[pages * PAGE :])
     struct.pack_into("<Q", rest, 8, struct.unpack_from("<Q", rest, 8)[0] | MISSED)
@@ -73,7 +73,7 @@ def check_a_ring(program: str) -> None:
 
 
 def replaced(old: bytes, new: bytes, data: bytes) -> bytes:
-    """Returns `data` with `old` replaced by `new`. `old` must occur exactly once."""
+    """Returns `data` with `old` replaced by `new`. `data` comes last, for functools.partial."""
     return data.replace(old, new)
 
 
@@ -102,7 +102,7 @@ def check_losses_without_pages(_: str) -> None:
 
 
 def check_a_killed_recorder(program: str) -> None:
-    """If the recorder was killed, the recording is converted only with --force, until the last time
+    """If the recorder was killed, the recording is converted only with --force, up to the last time
     at which all processors have events.
     """
     with recording("exec-2") as folder:

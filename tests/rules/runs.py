@@ -24,7 +24,7 @@ def rules_text(**changes: object) -> str:
 
 def memory_rules(name: str, pattern: str, delay: int) -> str:
     """Returns a ruleset that fires at each evaluation and kills the largest group that matches
-    `pattern`. `delay` is the time (s) after a kill until it fires again.
+    `pattern`. `delay` is the time (s) after a kill in which it doesn't kill again.
     """
     action = {
         "name": "kill_by_memory_size_or_growth",

@@ -55,8 +55,9 @@ class Room:
     def run(
         self, *words: str, program: str = "", status: int | None = None, text: str = ""
     ) -> Done:
-        """Runs a tool with a text as standard input. If the first word is psi_oomd, runs the
-        program. Raises unless the exit status is `status`, but None accepts all.
+        """Runs a tool, or psi_oomd if that is the first word, with `text` as standard input.
+        `program` is the psi_oomd that the tool runs. Raises unless the exit status is `status`, but
+        None accepts every status.
         """
         first = self.program if words[0] == "psi_oomd" else os.path.join(TOP, "tools", words[0])
         environment = {

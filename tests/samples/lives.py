@@ -16,7 +16,9 @@ EVENT = re.compile(r"^([0-9]+) (group|rmgroup) (/[^p].*)$", re.MULTILINE)
 
 
 def events(trace: str) -> list[tuple[float, str, str]]:
-    """Returns the time (s) and the path of each creation and each removal of a group in a trace."""
+    """Returns the time (s), the verb and the path of each line of a trace that creates or removes a
+    group.
+    """
     return [(int(at) / 1e9, verb, path) for at, verb, path in EVENT.findall(trace)]
 
 
@@ -99,7 +101,7 @@ def check_a_group_above_that_begins_anew(program: str) -> None:
 
 def check_gaps(program: str) -> None:
     """During a gap of two minutes without samples, groups continue to exist, and their totals grow
-    evenly. If the root's totals fall, they start again.
+    evenly. Even if the root's sampled totals fall, its totals in the trace don't.
     """
     times = [*range(0, 61, 5), *range(180, 241, 5)]
     found = [

@@ -20,7 +20,7 @@ MEMINFO = (
 
 def machine(room: Room) -> None:
     """Writes the files of a machine with a slice, a service whose name contains a blank, and a
-    group that can't be read.
+    group without pressure files.
     """
     for resource in ("io", "memory", "cpu"):
         room.file(f"top/proc/pressure/{resource}", PRESSURE.format(some=1000, full=10))

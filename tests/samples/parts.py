@@ -1,4 +1,4 @@
-"""Checks that samples of a long time are converted to several overlapping traces. The tools for
+"""Checks that samples over a long time are converted to several overlapping traces. The tools for
 rules treat these traces as one.
 """
 from __future__ import annotations
@@ -26,7 +26,7 @@ STALLS = [(600 * it, 600 * it + 60) for it in range(1, 9)]
 
 
 def stalled(at: float) -> float:
-    """Returns the total time (s) for which /a has stalled until the time `at` (s)."""
+    """Returns the total time (s) for which /a has stalled for memory until the time `at` (s)."""
     return sum(min(max(at - begin, 0), end - begin) for begin, end in STALLS)
 
 

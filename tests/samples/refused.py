@@ -1,5 +1,5 @@
-"""Checks that bad samples are rejected with the file and the line, and that no trace is written
-then. Tools reject a trace of samples if it lacks the data that they need.
+"""Checks that bad samples are rejected with a message that names the file, and that no trace is
+written then. Tools reject a trace of samples if it lacks the data that they need.
 """
 from __future__ import annotations
 
@@ -221,7 +221,7 @@ def check_rules_on_samples(program: str) -> None:
 
 def check_the_mark_is_no_group(program: str) -> None:
     """Each trace of samples has a special group that marks it. Neither expectations nor patterns of
-    rules match this group, even if the trace comes from a file on standard input.
+    rules match this group, even if the trace is read from standard input.
     """
     above = {
         "name": "pressure_above",

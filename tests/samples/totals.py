@@ -86,8 +86,8 @@ def recordings(room: Room) -> Iterator[tuple[str, str]]:
 
 
 def check_stored_recordings(program: str) -> None:
-    """The last printed totals lie between the machine's last two readings, since the last tick is
-    at or after the last reading.
+    """The last printed totals are the growth of the machine's totals from the first reading to the
+    last, apart from the errors that tools/samples reports.
     """
     with room_of(program) as room:
         for name, folder in recordings(room):
@@ -173,7 +173,9 @@ def check_a_wrong_program_is_seen(program: str) -> None:
 
 
 def check_totals_of_wakeups_by_the_program(program: str) -> None:
-    """psi_oomd accepts the trace. Its additional tasks have numbers that no kernel assigns."""
+    """psi_oomd accepts the trace. The tasks that tools/samples adds have numbers that no kernel
+    assigns. The group that marks the trace has no report.
+    """
     with room_of(program) as room:
         simulated(room, Machine(16, 20, 4, small_tree(3), 3), 2)
         room.make("it.csv")
