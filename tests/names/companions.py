@@ -22,8 +22,8 @@ def first_process(label: int) -> int:
 def companion(  # noqa: B006
     trace: str, names: dict[int, str], begins: str = BEGAN, processes: dict[int, int] = {}
 ) -> Companion:
-    """Returns the companion of a trace. `names` has process names by task label, and `processes`
-    the process numbers of the tasks that are threads.
+    """Returns the companion of a trace that starts at the time of day `begins`. `names` has
+    process names by task label, and `processes` the process numbers of the tasks that are threads.
     """
     size, digest = digest_of([trace.encode()])
     lives: dict[int, Life] = {}

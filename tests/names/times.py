@@ -115,8 +115,8 @@ def check_times_of_day_are_printed(room: Room) -> None:
 
 
 def check_comparisons(room: Room) -> None:
-    """`compare` and `sweep` compare the kills of an interval. `expect` and `sweep` print the times
-    of day of the interval.
+    """`compare` and `sweep` compare the kills of an interval. `expect`, `sweep` and `compare` print
+    the time of day of each kill that they name.
     """
     trace = prepare(room)
     first = kills_of(room, "tools/rules", "expect", "want", trace, "--rules", "often.json")[0]

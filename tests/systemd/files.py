@@ -152,7 +152,7 @@ def check_what_systemd_said(room: Room) -> None:
 
 
 def bad_settings() -> tuple[tuple[str, str, str], ...]:
-    """Returns invalid settings by name: the file, its text, and the expected message."""
+    """Returns invalid settings: for each, the file, its text, and the expected message."""
     unit, conf = f"{UNITS}/s.slice", "etc/systemd/oomd.conf"
     share = "it has to be a percentage such as 60%, from 0% to 100%, with at most two decimals"
     length = "it has to be a time of at least 1 s, such as 20s or 1min 30s"
@@ -204,7 +204,7 @@ def check_bad_settings(room: Room) -> None:
 
 
 def fault_of(room: Room, folder: str) -> str:
-    """Runs the emulation on a folder of invalid settings, and returns the error message."""
+    """Parses a folder of invalid settings, and returns the error message."""
     try:
         settings = Settings(os.path.join(room.path, folder))
         settings.watched(SLICE)

@@ -104,7 +104,9 @@ def check_wishes(room: Room) -> None:
 
 
 def check_whose_wishes_count(room: Room) -> None:
-    """A group's preference counts only if root or the owner of the watched group owns the group."""
+    """For memory pressure, a group's preference counts only if root or the owner of the watched
+    group owns the group. For swap, it counts only if root owns the group.
+    """
     for watched, of_group, victim in (
         (0, 1000, B), (1000, 1000, A), (0, 0, A), (1000, 0, A), (1000, 1001, B)
     ):
