@@ -27,7 +27,9 @@ def run(*words: str) -> tuple[int, bytes, str]:
 
 
 def printed(program: str, folder: str, place: str) -> bytes:
-    """Returns the output of psi_convert for the pages of both processors of a recording."""
+    """Returns the output of psi_convert for the pages of both processors of a recording. The table
+    is written into the folder `place`.
+    """
     table = os.path.join(place, "table")
     with open(table, "w", encoding="utf-8") as file:
         file.write(table_of(folder))

@@ -70,7 +70,7 @@ FIRST_BUILD = (
     r"\((?:20 to 40 minutes the first time on four processors|40 to 80 minutes the first time on "
     r"\d processors)\)"
 )
-# The progress of a build, which is printed at the end of each line.
+# The progress of a build, which is printed at the end of the line about each crate.
 PROGRESS = r" \(\d+ of about \d+ minutes\)"
 AVOIDED = "; ./{0} --try runs it unproved in a minute or two, and {1}=FILE names a built one"
 BUILDS = "what is proved is built by ./{0} without --try"

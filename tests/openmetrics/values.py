@@ -35,7 +35,9 @@ def metrics_of(printed: bytes, *words: str) -> Exposition:
 
 
 def totals_of(printed: bytes) -> dict[tuple[str, str, str], list[Point]]:
-    """Returns the printed totals (s) with their times, by group, resource and level."""
+    """Returns the printed totals (s) with their times (s since 1970), by group, resource and
+    level.
+    """
     totals = collections.defaultdict(list)
     head: list[str] = []
     for words in (line.split(" ") for line in printed.decode().splitlines()):
@@ -48,7 +50,7 @@ def totals_of(printed: bytes) -> dict[tuple[str, str, str], list[Point]]:
 
 
 def moments_of(printed: bytes, verb: str, *words: str) -> list[Decimal]:
-    """Returns the times (s) of the lines that begin with this verb and contain these words."""
+    """Returns the times (s since 1970) of the lines that begin with `verb` and contain `words`."""
     lines = [
         line.split(" ") for line in printed.decode().splitlines() if line.startswith(f"{verb} ")
     ]

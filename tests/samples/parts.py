@@ -167,8 +167,8 @@ def check_from_and_to(program: str) -> None:
 
 
 def check_rows_beyond_memory(_program: str) -> None:
-    """Rows that don't fit in memory are returned in order, too. They can be read again from any
-    time on.
+    """Rows are returned in order even if there are so many that most are stored in files. They can
+    be read again from any time on.
     """
     rng, store = random.Random(5), Store()
     rows = [

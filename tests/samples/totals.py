@@ -86,8 +86,8 @@ def recordings(room: Room) -> Iterator[tuple[str, str]]:
 
 
 def check_stored_recordings(program: str) -> None:
-    """The last printed totals are the growth of the machine's totals from the first reading to the
-    last, apart from the errors that tools/samples reports.
+    """The last printed totals equal the growth of the machine's totals from the first reading to
+    the last, apart from the errors that tools/samples reports.
     """
     with room_of(program) as room:
         for name, folder in recordings(room):
