@@ -258,8 +258,8 @@ class Writer:
         return words
 
     def chain(self, turns: list[Move], following: int, how: str) -> Iterator[str]:
-        """Yields the lines of a chain of switches. `how` is the word by which the running task
-        leaves; the last switch is to the task `following`.
+        """Yields the lines of switches to each task of `turns`, and then to the task `following`.
+        `how` is the last word of the first switch: how the running task leaves the processor.
         """
         for turn in turns:
             yield f"switch {self.processor} {turn.task} {how}"

@@ -44,9 +44,8 @@ def shortened(line: str) -> str:
 
 
 def path_of_copy(line: str) -> str:
-    """Returns the path of the group that a line names, or `/` if the line names no group. The line
-    has one of the verbs whose lines are copied unchanged, and has no time. Raises NotATrace if it
-    is malformed.
+    """Returns the path of the group that a line names, or `/` if the line names no group. `line` is
+    a line that is copied unchanged, without its time. Raises NotATrace if it is malformed.
     """
     found = SAMPLE.fullmatch(line) or PREFERENCE.fullmatch(line)
     if found and all(int(word) <= MOST_MEMORY for word in line.split(" ") if word.isdigit()):

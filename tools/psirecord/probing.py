@@ -72,8 +72,8 @@ Tell = Callable[[str], None]
 
 @dataclass
 class Sources:
-    """The sources of a recording: the events as SYSTEM/EVENT, the filters of some events, and the
-    method that shows waits for IO.
+    """What a recording traces: the events as SYSTEM/EVENT, the filters of some events, and how
+    waits for IO are detected.
     """
 
     events: list[str] = field(default_factory=list)

@@ -157,7 +157,7 @@ class Nearest:
                 self.tell(f"{places_of(unit)}: every {kind} is watched: no rule says that", True)
 
     def add(self, ruleset: dict[str, Any], place: Place) -> None:
-        """Adds a ruleset, or a note if the file already has the largest number of rulesets."""
+        """Adds a ruleset. If the file already has the maximum number of rulesets, adds a note."""
         if len(self.rulesets) == MOST_RULESETS:
             self.tell(
                 f"{place.name}: more than {MOST_RULESETS} rulesets aren't taken: no rule watches"

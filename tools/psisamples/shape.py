@@ -39,9 +39,10 @@ def bounded_rates(
     lengths: Sequence[int],
     growth: float,
 ) -> list[float]:
-    """Returns the growth rate in each part of an interval: a linear function, with this slope, of
-    the weight that avg10 gives to the part (`recent`). Each rate is between 0 and the part's
-    `most`. With these rates the total grows by `growth` (ns).
+    """Returns the growth rate in each part of an interval: `level + slope * weight`, limited to 0
+    to the part's `most`, where the weight is the one that avg10 gives to the part (`recent`).
+    `level` is chosen so that the total grows by `growth` (ns) over the parts, whose `lengths` are
+    in ns.
     """
     low, high = -abs(slope), 1.0 + abs(slope)
     found = [0.0] * len(recent)

@@ -72,7 +72,8 @@ pub fn assert_prints(rt: &impl Host, line: &str, trace: &str, output: &str) {
     assert_equal!(rt; ran.results(), (ObserveStatus::Done, output, ""), line);
 }
 
-/// Checks that a command line ends with this status and note for this trace, and prints nothing.
+/// Checks that a run of this command line on this trace returns this status, writes this note, and
+/// prints no output.
 pub fn assert_prints_nothing(
     rt: &impl Host,
     line: &str,

@@ -150,8 +150,8 @@ fn lines_have_no_513_bytes(rt: HostRuntime) {
     }
 }
 
-// Checks the results of four calls. The shelf returns at most two bytes per read, and read number
-// `fails` fails.
+// Checks the results of four calls for the next line. The shelf returns at most two bytes per read,
+// and read number `fails` (from 0) fails.
 fn assert_one_failure(rt: &impl Abort, alloc: Global, fails: u64, wanted: &str) {
     for lends in &[false, true] {
         let mut shelf = shelf_of(rt, alloc, "abc\nde\n", 2, fails);

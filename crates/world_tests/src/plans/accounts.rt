@@ -25,7 +25,8 @@ const LINES: [&[u8]; 7] = [
     b"2000000000 end",
 ];
 
-/// Returns the change that switches the accounting of slot 1 on a processor on which no task runs.
+/// Returns the change that turns the accounting of slot 1 on or off (`on`), for a processor that
+/// runs no task.
 fn account(at: Ns, on: bool) -> Change {
     Change {
         at,
