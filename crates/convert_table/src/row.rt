@@ -50,7 +50,8 @@ fn next<'a, const AT: u8>(parts: &mut Parts<'a, AT>) -> Option<&'a [u8]>
     parts.next_part()
 }
 
-// Returns `Some` if no part remains, and `None` if a part remains.
+// Returns `Some` if no part remains, and `None` if a part remains, so that `?` rejects a surplus
+// part.
 fn ended<const AT: u8>(parts: &mut Parts<'_, AT>) -> Option<()>
     ensures { MatchOption result (ended parts.old ≡ None) (λ _. ended parts.old ≡ Some tt) }
 {

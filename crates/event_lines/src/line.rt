@@ -41,7 +41,6 @@ fn put_byte<K: Sink>(out: &mut K, byte: u8) -> Result<(), WriteFailed>
     }
 }
 
-// Writes a text, with escapes for spaces, backslashes and bytes that aren't printable.
 fn put_bytes<K: Sink>(out: &mut K, bytes: &[u8]) -> Result<(), WriteFailed>
     ensures bytes { PutsAll (K.has out.old) (K.has out.new) result (bytes_text bytes.now) }
     ensures cause { HasCause (K.faults out.old) (K.faults out.new) result }
@@ -80,7 +79,8 @@ fn put_value<K: Sink>(out: &mut K, value: FieldValue<'_>) -> Result<(), WriteFai
     }
 }
 
-// Writes a space and the value of a field. `bytes` are the bytes of the event's record.
+// Writes a space and the value of a field. `bytes` are the bytes of the event's record, and
+// `letters` the letters for the bits of a task's state.
 #[tactic(auto, using(outside::proofs::Grows::chain))]
 fn put_field<K: Sink>(
     out: &mut K,

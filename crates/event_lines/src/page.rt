@@ -1,5 +1,5 @@
-//! Writes the lines of one page: the events that were lost before it, and its own events. The text
-//! of a single line is in `line`.
+//! Writes the lines of one page: the number of events that were lost before it, and its own events.
+//! The module `line` writes the single lines.
 ghost use Rattle.std.specs.Prelude.{◌≡◌, ◌≤◌, length};
 ghost use Rattle.outside.specs.Outside.{HasCause, SameInner};
 ghost use Rattle.outside.specs.Calls.{PutsAll};
@@ -70,7 +70,7 @@ fn put_events<'a, K: Sink>(
 }
 
 // Writes a line with the number of events that were lost before a page, or nothing if `lost` is
-// `None`.
+// `None`. `time` (ns) is the time of the page.
 fn put_losses<K: Sink>(
     out: &mut K,
     cpu: u32,
@@ -89,7 +89,7 @@ fn put_losses<K: Sink>(
 }
 
 // Writes the lines of a page: the number of events that were lost before the page (no line if
-// `lost` is `None`), and the events of its records.
+// `header.lost` is `None`), and the events of its records.
 fn put_read<'a, K: Sink>(
     layout: &'a Layout,
     cpu: u32,

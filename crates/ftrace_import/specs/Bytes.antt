@@ -7,7 +7,7 @@ use Rattle.import_spec.specs.Marked.{Mark, Marked, begins_marked, mark_of}
 use Rattle.import_spec.specs.Places.{first_place, last_place}
 use Rattle.import_spec.specs.Tails.{digit_count, is_bracketed}
 
--- `is_at byte other`: whether `other` equals `byte`.
+-- `is_at byte other`: whether a search for the byte `byte` stops at the byte `other`.
 abbrev pub is_at : ℕ → ℕ → Bool
 is_at byte other = other == byte
 

@@ -17,15 +17,15 @@ act_by (Wake pid cpu) = act.Wake pid cpu
 act_by (Switch cpu next how) = act.Switch cpu next how
 act_by (Migrate pid cpu) = act.Migrate pid cpu
 
--- Returns the event that is stored in compact form.
+-- Returns the event that `kept` represents.
 abbrev pub event_by : Kept → Event
 event_by kept = record { at = kept.at; act = act_by kept.deed }
 
--- Returns the events that are stored in compact form, in order.
+-- Returns the events that the entries of `kept` represent, in order.
 abbrev pub events_by : List Kept → List Event
 events_by kept = map event_by kept
 
--- Returns the acts of the events that are stored in compact form, in order.
+-- Returns the acts that the entries of `kept` represent, in order.
 abbrev pub acts_in : List Kept → List Act
 acts_in kept = map (λ (one : Kept). act_by one.deed) kept
 

@@ -28,7 +28,7 @@ use Rattle.ftrace_import.specs.Stands.{Ends, IsUnderWay, Run, limits}
 -- ---- line by line
 
 -- Returns the progress of an import: the time of the first marked line, the trace time of the last
--- marked line, and the world after the stored events.
+-- marked line, and the world (the state of all tasks and groups) after the stored events.
 abbrev pub reached_in : Gathering → Reached
 reached_in g = record { first = g.first; moment = g.moment; world = g.table.world }
 
@@ -61,8 +61,9 @@ TakesLine line_events old new (Err (fault.NoMemory _)) = ⊤
 
 -- ---- reading the lines of a file
 
--- `rest_from cpus reached number bytes`: the events of the remaining bytes, or the rejection of one
--- of their lines. `number` is the number of the first remaining line.
+-- `rest_from cpus reached number bytes`: the events of the remaining bytes of a text, or the
+-- rejection of one of their lines. `cpus` is the number of processors, `reached` the progress of
+-- the import before these bytes, and `number` the number of the first remaining line (from 1).
 abbrev pub rest_from : ℕ → Reached → ℕ → List ℕ → Result (List Event) Refused
 rest_from cpus reached number bytes = import_from cpus reached number (parts_at 10 bytes)
 
@@ -113,7 +114,7 @@ NextGives number old new before suffix known (Err fault) =
     (bytes : List ℕ) → known ≡ Some bytes → RefusalOf fault (rest_from old.cpus (reached_in old) number (before bytes))
 
 -- `CausesImportFault before now result`: the counts of failed reads and of missing files increased
--- exactly if `result` reports such a failure.
+-- from `before` to `now` if and only if `result` reports such a failure.
 abbrev pub CausesImportFault : {A : Type 0} → ShelfCounts → ShelfCounts → Result A ImportFault → Type 0
 CausesImportFault before now result = HasCauses before now (IsErrOf result import.ReadFault) (IsErrOf result import.NoFile)
 
@@ -151,9 +152,10 @@ pub record ReadsLine {A : Type 0} (known : Option (List ℕ)) (old new : Reader)
   pub counted : read_now + old.at ≡ bytes_read + new.at
   pub place : new.at ≤ furthest old.number
 
--- `KeepsLines known old new result`: the number of the next line plus the number of remaining lines
--- stays the same when a line is read. If a read failed, no line was removed and no complete line is
--- buffered. If a line is rejected, its number is `old.number`.
+-- `KeepsLines known old new result`: `old` and `new` are the reader before and after it read a
+-- line. The number of the next line plus the number of remaining lines stays the same. If the read
+-- failed, the next line stays the same, and no complete line is buffered. If a line is rejected,
+-- its number is `old.number`.
 pub record KeepsLines {A : Type 0} (known : Option (List ℕ)) (old new : Reader) (result : Result A ImportFault) : Type 0 where
   pub lines : (bytes : List ℕ) → known ≡ Some bytes → new.number + line_count (left new bytes) ≡ old.number + line_count (left old bytes)
   pub failed : IsErrOf result import.ReadFault → (new.number ≡ old.number)
@@ -161,9 +163,10 @@ pub record KeepsLines {A : Type 0} (known : Option (List ℕ)) (old new : Reader
   pub refused : (number : ℕ) (why : ImportCause) → IsErrOf result (import.Refused number why) → number ≡ old.number
 
 -- `StopsAtRefusal read known bytes_read read_now result`: reading stops at the first rejected line.
--- The import reads at most `furthest number` bytes: the greatest size of the earlier lines, and one
--- full buffer. If a read fails, the bytes read so far end within the first rejected line or before
--- it.
+-- `bytes_read` and `read_now` are the numbers of bytes read before and after the import, and `read`
+-- maps a file's content to the specified result. If line `number` is rejected, the import reads at
+-- most `furthest number` bytes: the greatest size of the earlier lines, and one full buffer. If a
+-- read fails, the bytes read so far end within the first rejected line or before it.
 abbrev pub StopsAtRefusal : {A : Type 0} → (List ℕ → Result (List Event) Refused) → Option (List ℕ) → ℕ → ℕ → Result A ImportFault → Type 0
 StopsAtRefusal read known bytes_read read_now (Ok x) = ⊤
 StopsAtRefusal read known bytes_read read_now (Err (import.Refused number why)) = read_now ≤ bytes_read + furthest number
@@ -173,8 +176,8 @@ StopsAtRefusal read known bytes_read read_now (Err import.ReadFault) =
     → line_count (take (read_now - bytes_read) bytes) ≤ refusal.line
 StopsAtRefusal read known bytes_read read_now (Err (import.NoMemory _)) = ⊤
 
--- The result is an error that doesn't depend on the file's bytes: `NoFile`, `ReadFault` or
--- `NoMemory`.
+-- `ShowsNothing result`: the result is an error that doesn't depend on the file's bytes: `NoFile`,
+-- `ReadFault` or `NoMemory`.
 abbrev pub ShowsNothing : {A : Type 0} → Result A ImportFault → Type 0
 ShowsNothing (Ok x) = ⊥
 ShowsNothing (Err (import.Refused number why)) = ⊥

@@ -68,10 +68,10 @@ WakeupWakes = (cpus : ℕ) (lines : List (List ℕ)) (line : List ℕ) (at : ℕ
     → GivesAfter cpus lines line (record { at = at; seen = seen.Wakeup pid cpu }) line_events
     → is_some_and (task_of line_events.reached.world.tasks pid.0) (λ task. is_active task.mode) ≡ true
 
--- `IsWritten cpus lines line events`: the complete line `line`, which follows `lines`, corresponds
--- to its own section of the written events. The events before this section lead to the world before
--- the line. The events up to its end lead to the world after the line. So a law about the world
--- after a line also holds after a prefix of the written events.
+-- `IsWritten cpus lines line events`: the events of the complete line `line`, which follows
+-- `lines`, form one section of the written events `events`. The events before this section lead to
+-- the world before the line, and the events up to its end to the world after the line. So a law
+-- about the world after a line also holds after a prefix of the written events.
 pub record IsWritten (cpus : ℕ) (lines : List (List ℕ)) (line : List ℕ) (events : List Event) : Type 0 where
   pub prefix : List Event
   pub suffix : List Event
@@ -83,7 +83,7 @@ pub record IsWritten (cpus : ℕ) (lines : List (List ℕ)) (line : List ℕ) (e
   pub there : reached.world ≡ after prefix
   pub world : line_events.reached.world ≡ after (prefix ++ line_events.events)
 
--- Each complete line of an accepted text corresponds to its own section of the written events
+-- The events of each complete line of an accepted text form one section of the written events
 -- (`IsWritten`).
 abbrev pub LinesAreWritten : Type 0
 LinesAreWritten = (cpus : ℕ) (bytes : List ℕ) (events : List Event) (lines more : List (List ℕ)) (line : List ℕ)

@@ -15,7 +15,8 @@ pub record Lending : Type 0 where
   pub event : Event
   pub left : List Event
 
--- The current event of an iterator: `making` if the Boolean is true, and `other` if it is false.
+-- `shown makes making other`: the current event. The iterator stores an event that creates a task
+-- in `making`, and any other event in `other`. `makes` says which of the two is current.
 abbrev pub shown : Bool → Event → Event → Event
 shown true making other = making
 shown false making other = other

@@ -38,7 +38,8 @@ pub record Stands (cpus at room : ℕ) (w : World) : Type 0 where
   pub early : at ≤ latest_moment
   pub few : w.lines + room ≤ most_imported
 
--- The world and the time of an import's progress satisfy the invariant `Stands`.
+-- `IsUnderWay cpus reached`: the invariant `Stands` holds for the world and the time of an import's
+-- progress `reached`.
 abbrev pub IsUnderWay : ℕ → Reached → Type 0
 IsUnderWay cpus reached = Stands cpus reached.moment 0 reached.world
 
@@ -61,7 +62,8 @@ pub record Ends (cpus : ℕ) (w : World) (events : List Event) : Type 0 where
 abbrev pub Leaves : How → Type 0
 Leaves how = (o : Option (ℕ × Task)) → is_some o ≡ true → is_wrong how o ≡ false
 
--- The values in the content of a line are in range.
+-- `IsSeen seen`: the values in the content of a line are valid. The pid of the task that runs next,
+-- wakes up or migrates is from 1 to 2^32 - 1. The way in which a task leaves isn't `idle`.
 abbrev pub IsSeen : Seen → Type 0
 IsSeen (seen.Switch cpu previous next how) = IfSome next IsPid × Leaves how
 IsSeen (seen.Wakeup pid cpu) = IsPid pid

@@ -1,5 +1,5 @@
-//! The acts of an ftrace line in a compact form (*deeds*), which are stored until all lines are
-//! read. An act is an event without its time.
+//! Stores the acts of each ftrace line in a compact form (*deeds*) until all lines are read. An act
+//! is an event without its time.
 //!
 //! import_spec defines the acts of each line. This module computes and stores the acts, but doesn't
 //! apply them to the table of tasks.
@@ -49,7 +49,7 @@ pub(crate) struct Kept {
     pub(crate) deed: Deed,
 }
 
-/// Returns the event that is stored in compact form.
+/// Returns the event that `kept` represents. Allocates memory only for a fork: the root's path.
 pub(crate) fn event_of(alloc: Global, kept: Kept) -> Result<Event, NoMemory>
     ensures { IfOk result (λ event. event ≡ event_by kept) }
 {
@@ -74,7 +74,8 @@ fn keep(kept: &mut Vec<Kept>, at: Ns, deed: Deed) -> Result<(), NoMemory>
     Ok(())
 }
 
-/// Appends nothing, because the line has no acts.
+/// Appends nothing. A branch for a line without acts calls this function, so that all branches have
+/// the same contract.
 #[tactic(auto, using(crate::proofs::Keeping::none_kept))]
 fn keep_none(kept: &mut Vec<Kept>, at: Ns) -> Result<(), NoMemory>
     ensures { Adds kept.old.items kept.new.items result at [] }
@@ -84,8 +85,8 @@ fn keep_none(kept: &mut Vec<Kept>, at: Ns) -> Result<(), NoMemory>
     Ok(())
 }
 
-/// Appends the acts of a wakeup, in compact form. `task` is the task before the wakeup, or `None`
-/// if it doesn't exist yet.
+/// Appends the acts of a wakeup of the task `pid` on processor `cpu`, in compact form. `task` is
+/// the state of the task before the wakeup, or `None` if the task doesn't exist yet.
 fn keep_wakeup(
     kept: &mut Vec<Kept>,
     at: Ns,
@@ -104,8 +105,8 @@ fn keep_wakeup(
     }
 }
 
-/// Appends the acts of a migration, in compact form. `task` is the task before the migration, or
-/// `None` if it doesn't exist yet.
+/// Appends the acts of a migration of the task `pid` to processor `cpu`, in compact form. `task` is
+/// the state of the task before the migration, or `None` if the task doesn't exist yet.
 fn keep_migration(
     kept: &mut Vec<Kept>,
     at: Ns,
@@ -168,7 +169,7 @@ fn keep_next(
     }
 }
 
-/// Returns whether `pid` is a task that is running on processor `cpu`.
+/// Returns whether the task `pid` is running on processor `cpu`. Returns false for `None`.
 fn runs_there(table: &Table, cpu: Cpu, pid: Option<Pid>) -> bool
     ensures { result ≡ runs_there table.now.world.tasks cpu pid }
 {
@@ -225,8 +226,9 @@ fn keep_turn(
     }
 }
 
-/// Appends the acts of a switch, in compact form. Appends nothing if the task `next` already runs
-/// on processor `cpu`.
+/// Appends the acts of a switch on processor `cpu` from the task `previous`, which leaves in the
+/// way `how`, to the task `next`. Appends nothing if `next` already runs there. `table` is the
+/// table of tasks before the switch.
 #[tactic(auto, using(crate::proofs::Keeping::both_kept))]
 fn keep_switch(
     table: &Table,

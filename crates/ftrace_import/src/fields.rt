@@ -158,7 +158,7 @@ pub(crate) fn field_in(part: &[u8], key: &[u8]) -> Option<u32>
     }
 }
 
-/// Returns the task with the pid `number`, or `None` for 0, the pid of the idle task.
+/// Returns the pid `number`, or `None` for 0, the pid of the idle task.
 pub(crate) fn pid_in(number: u32) -> Option<Pid>
     ensures { result ≡ pid_in number }
 {

@@ -1,6 +1,7 @@
 //! An iterator that lends the events of an import.
 //!
-//! Unlike `import`, which returns a vector, the iterator doesn't allocate memory for each event.
+//! `import` returns the same events as a vector. The iterator needs less memory: it stores the
+//! events in compact form, and builds each event only when it lends it.
 ghost use Rattle.std.specs.Prelude.{◌≡◌, ◌+◌, ◌≤◌, ℕ, List, false, IfOk, IsErrOf, MatchResult, Some, None, Ok};
 ghost use Rattle.outside.specs.Outside.{content_of, IsAbsent, counts_of};
 ghost use Rattle.outside.specs.Reads.{ReadsFile};

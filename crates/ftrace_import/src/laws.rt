@@ -9,9 +9,9 @@ pub fn law_imported()
     ensures { ImportedIsTrace }
 {}
 
-/// Each complete line of an accepted text corresponds to its own section of the written events. The
-/// world (the state of all tasks and groups) after the line is the world after this section and all
-/// earlier events.
+/// The events of each complete line of an accepted text form one section of the written events. The
+/// world (the state of all tasks and groups) after the line is the world after all events up to the
+/// end of this section.
 pub fn law_written()
     ensures { LinesAreWritten }
 {}

@@ -1,7 +1,9 @@
-//! The import of ftrace text: parses the marked lines (switches, wakeups and migrations), and
-//! converts them to the events of a trace.
+//! Imports ftrace text: parses the lines of switches, wakeups and migrations, and converts them to
+//! the events of a trace.
 //!
-//! The crate doesn't write the trace. All tasks belong to the root group.
+//! These lines are called *marked*, because each contains the name of a tracepoint, such as
+//! `sched_switch`. Other lines are skipped. The crate doesn't write the trace. All tasks belong to
+//! the root group.
 #![tactic(auto)]
 
 mod deeds;

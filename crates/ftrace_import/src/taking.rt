@@ -61,7 +61,7 @@ fn makes(deed: Deed) -> bool
     }
 }
 
-/// Returns whether at least one of the stored acts creates a task.
+/// Returns whether at least one of the acts in `kept` creates a task.
 fn make_task(kept: &[Kept]) -> bool
     ensures { result ≡ make_task (acts_in kept.now) }
 {
@@ -108,8 +108,7 @@ fn play_one(alloc: Global, table: &mut Table, kept: Kept) -> Result<(), NoMemory
     }
 }
 
-/// Applies the stored events to the table of tasks. Precondition: the events are legal in this
-/// order.
+/// Applies the events in `kept` to the table of tasks. Precondition: they are legal in this order.
 fn play_all(alloc: Global, table: &mut Table, kept: &[Kept]) -> Result<(), NoMemory>
     requires { AreLegal table.old.limits table.old.world (events_by kept.now) }
     ensures limits { OnOk result (table.new.limits ≡ table.old.limits) }

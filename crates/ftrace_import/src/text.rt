@@ -76,7 +76,7 @@ fn import_fault(fault: LineFault) -> ImportFault
 }
 
 /// Checks, after the maximum number of lines, that the file has no further bytes. Returns false if
-/// there are none, and fails with `TooManyLines` otherwise.
+/// there are none, and fails with `TooManyLines` if there are some.
 fn look_after<S: Shelf>(
     g: &Gathering,
     lines: &mut Lines,
@@ -210,8 +210,8 @@ fn take_lines<S: Shelf>(
     }
 }
 
-/// Reads the ftrace text in a file and collects its events, for a machine with 1 to 64 processors.
-/// Reads at most 16,000,000 lines, and checks that the file has no further bytes.
+/// Reads the ftrace text in the file `name`, recorded on `cpus` processors (1 to 64), and collects
+/// its events. Reads at most 16,000,000 lines, and checks that the file has no further bytes.
 ///
 /// Returns `NoFile` or `ReadFault` only if the file store (`Shelf`) counted a missing file or a
 /// failed read during this call.

@@ -1,5 +1,5 @@
-//! Reads little-endian numbers from bytes, and splits bytes. This module doesn't depend on the
-//! format of a page.
+//! Reads little-endian numbers from slices of bytes, and returns prefixes and suffixes of slices.
+//! This module doesn't depend on the format of a page.
 ghost use Rattle.std.specs.Prelude.{◌≡◌, ◌≤◌, length, take, drop};
 ghost use Rattle.page_spec.specs.Fields.{half_of, long_of, number_in, size_of, word_of};
 

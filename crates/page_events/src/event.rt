@@ -39,7 +39,7 @@ fn kind_with(kinds: &[Kind], number: u16) -> Option<&Kind>
     kinds.iter().find(|kind| kind.number == number)
 }
 
-// Returns the content of a record.
+// Decodes the bytes of a record. The first two bytes are the number of the event's kind.
 fn outcome_of<'a>(kinds: &'a [Kind], bytes: &[u8]) -> Outcome<'a>
     ensures { reading_seen result ≡ reading_of kinds.now bytes.now }
 {

@@ -9,7 +9,8 @@ use crate::bytes::{bytes_from, bytes_to, long, word};
 use crate::records::Records;
 use page_spec::{ByteFault, Layout, PageCause};
 
-/// The offset (bytes) in a page of the word with the number of bytes of records.
+/// The offset in a page (bytes) of a 4-byte word: the size of the records (bytes) in its lower 30
+/// bits, and two flags for lost events above them.
 const USED_BYTES: usize = 8;
 
 /// The header of a page, and the records of the page.
@@ -40,8 +41,8 @@ fn lost(flags: u32, end: usize, page: &[u8]) -> Option<u64>
     }
 }
 
-/// Reads the header of a page. Returns `TooLong`, at the word with the number of bytes of records,
-/// if the records don't fit in the page.
+/// Reads the header of a page. Fails with `TooLong`, at the offset of the word with the size of the
+/// records, if the records don't fit in the page.
 pub fn read_header<'a>(layout: &Layout, page: &'a [u8]) -> Result<Header<'a>, ByteFault>
     requires { 16 ≤ length page.now }
     ensures { MatchResult result

@@ -1,5 +1,5 @@
 //! Decodes the next part of a page's data: a record, a part without an event, or the end. A part
-//! begins with a word, whose lower 5 bits are its kind.
+//! begins with a 4-byte word, whose lower 5 bits are the part's kind.
 ghost use Rattle.std.specs.Prelude.{◌≡◌, ◌^◌, ◌<◌, ◌≤◌, length};
 ghost use Rattle.page_spec.specs.Fields.{word_of};
 ghost use Rattle.page_spec.specs.Records.{kind_step, long_step, step_at};
@@ -27,7 +27,8 @@ pub(crate) enum Part<'a> {
     },
 }
 
-/// The unit of the second word of a time: 2^27 ns, because the first word has the lower 27 bits.
+/// The unit of the second word of a time: 2^27 ns, because the first word has the lower 27 bits of
+/// the time.
 const UNIT: u64 = 1 << 27;
 
 /// The unit (2^59 ns) of the bits that an absolute time in a page lacks: a page stores only its

@@ -33,8 +33,8 @@ fn half_range(width: Width) -> u64
     }
 }
 
-// Returns the value of a signed number of this width in two's complement. `number` has the same
-// bits without a sign.
+// Returns the value of a signed number of this width in two's complement. `number` is the value of
+// the same bits as an unsigned number.
 fn signed<'a>(width: Width, number: u64) -> FieldValue<'a>
     requires { number < 2 ^ (8 * size_of width) }
     ensures { seen_value result ≡ signed_of width number }

@@ -48,8 +48,8 @@ PutsFile old new cpu found (Err (file.Refused page byte cause)) =
     (found.fault ≡ Some (fault_at page (byte_fault byte cause))) × Appends old new (items_text cpu found.items)
 PutsFile old new cpu found (Err _) = AppendsPrefix old new (items_text cpu found.items)
 
--- The number of failed writes increased from `before` to `now` if `result` is WriteFault. For any
--- other result, both numbers are equal.
+-- `HasFileWriteCause before now result`: the number of failed writes increased from `before` to
+-- `now` if `result` is WriteFault. For any other result, both numbers are equal.
 pub record HasFileWriteCause {T : Type 0} (before now : ℕ) (result : Result T FileStop) : Type 0 where
   pub later : before ≤ now
   pub failed : IsErrOf result file.WriteFault → Increased before now
